@@ -42,10 +42,14 @@ word StrangeLetter = codes "strange letter"
 word StrangeReading = codes "strange reading"
 word OutOfTurn = codes "out of turn"
 
+-- what a call answers whose checks may refuse it: the refusal, or else r
+abbrev pub unless : {X : Type 0} → Option Refusal → Result X Refusal → Result X Refusal
+unless None r = r
+unless (Some e) r = Err e
+
 -- what a call answers: its result where nothing refuses it, else the refusal
 abbrev pub answered : {X : Type 0} → Option Refusal → X → Result X Refusal
-answered None x = Ok x
-answered (Some e) x = Err e
+answered e x = unless e (Ok x)
 
 -- one check of a chain: e where the test hits, else what the later checks say
 abbrev pub refuse : Bool → Refusal → Option Refusal → Option Refusal
