@@ -1,1 +1,3 @@
 pub mod OctetLaws
+pub mod PeriodLaws
+pub mod LampLaws

@@ -1,3 +1,5 @@
 pub mod Octets
 pub mod Trips
 pub mod Bearings
+pub mod Periods
+pub mod Lamps

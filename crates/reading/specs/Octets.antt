@@ -18,9 +18,13 @@ pair n = n / 256 ∷ n % 256 ∷ []
 abbrev pub pairAt : List ℕ → ℕ → ℕ
 pairAt o i = getD o i 0 * 256 + getD o (i + 1) 0
 
--- x where there are w octets, else nothing
+-- x where the test hits, else nothing
+abbrev pub keptIf : {X : Type 0} → Bool → Option X → Option X
+keptIf b x = cond b x None
+
+-- x where there are just w octets, else nothing
 abbrev pub exactly : {X : Type 0} → ℕ → List ℕ → Option X → Option X
-exactly w o x = cond (eqb (length o) w) x None
+exactly w o x = keptIf (eqb (length o) w) x
 
 -- what refuses to put w octets into a place
 abbrev pub room : ℕ → List ℕ → Option Refusal

@@ -14,7 +14,9 @@ ghost use Rattle.reading.specs.Trips.{RoundTrips};
 use refusal::Refusal;
 
 pub mod bearing;
+pub mod lamp;
 mod octets;
+pub mod period;
 
 // A kind of reading: values that have a meaning and are written as octets.
 pub trait Reading: Copy {
