@@ -2,7 +2,9 @@
 ghost use mathlib.Core.Path.{_≡_};
 ghost use Rattle.reading.specs.Bearings.{bearingMeaning, bearingOctets, bearingReads};
 use super::Reading;
-use super::octets::put;
+use super::place::put;
+use super::width::Octets;
+use super::width::OctetsWidth;
 use refusal::Refusal;
 
 // A direction in hundredths of a degree, 0 to 65,535.
@@ -35,7 +37,9 @@ impl Bearing {
 }
 
 pub impl Reading for Bearing as BearingReading {
-    const WIDTH: usize = 2;
+    type Wide = Octets<2>;
+
+    const WIDTH: Octets<2> = Octets;
 
     ghost width = { 2 };
 
@@ -44,10 +48,6 @@ pub impl Reading for Bearing as BearingReading {
     ghost octets = { bearingOctets };
 
     ghost reads = { bearingReads };
-
-    fn octets_wide() -> usize {
-        Self::WIDTH
-    }
 
     fn same(&self, other: &Bearing) -> bool {
         self.meaning() == other.meaning()

@@ -2,10 +2,12 @@
 ghost use mathlib.Core.Path.{_≡_};
 ghost use Rattle.reading.specs.Lamps.{lampMeaning, lampOctets, lampReads};
 use super::Reading;
-use super::octets::put;
 use super::period::Period;
 use super::period::PeriodDebug;
 use super::period::PeriodPartialEq;
+use super::place::put;
+use super::width::Octets;
+use super::width::OctetsWidth;
 use refusal::Refusal;
 
 // No light, a steady light, or one that comes and goes with a period, in use or on standby.
@@ -32,7 +34,9 @@ impl Lamp {
 }
 
 pub impl Reading for Lamp as LampReading {
-    const WIDTH: usize = 3;
+    type Wide = Octets<3>;
+
+    const WIDTH: Octets<3> = Octets;
 
     ghost width = { 3 };
 
@@ -41,10 +45,6 @@ pub impl Reading for Lamp as LampReading {
     ghost octets = { lampOctets };
 
     ghost reads = { lampReads };
-
-    fn octets_wide() -> usize {
-        Self::WIDTH
-    }
 
     fn same(&self, other: &Lamp) -> bool {
         self.meaning() == other.meaning()

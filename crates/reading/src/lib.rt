@@ -15,13 +15,19 @@ use refusal::Refusal;
 
 pub mod bearing;
 pub mod lamp;
-mod octets;
 pub mod period;
+mod place;
+pub mod width;
+
+use width::Width;
 
 // A kind of reading: values that have a meaning and are written as octets.
 pub trait Reading: Copy {
-    // How many octets a reading of the kind takes, 1 to 8.
-    const WIDTH: usize;
+    // The type that fixes the width.
+    type Wide: Width;
+
+    // How many octets a reading of the kind takes, 1 to 8: `R::WIDTH.octets()`.
+    const WIDTH: Self::Wide;
 
     // The same number, for clauses.
     ghost width: { ℕ };
@@ -35,6 +41,8 @@ pub trait Reading: Copy {
     // The reading that is written as these octets, if there is one.
     ghost reads: { List ℕ → Option Self };
 
+    law wide: { Wide·Width .count ≡ width };
+
     law narrow: { (1 ≤ width) × (width ≤ 8) };
 
     law long: { (r : Self) → length (octets r) ≡ width };
@@ -42,10 +50,6 @@ pub trait Reading: Copy {
     law back: { (r : Self) → reads (octets r) ≡ Some r };
 
     law whole: { (o : List ℕ) (r : Self) → ((i : ℕ) → getD o i 0 < 256) → reads o ≡ Some r → octets r ≡ o };
-
-    // The width, to code that knows the kind only by its bound.
-    fn octets_wide() -> usize
-        ensures { λ r. ⌜ r ≡ width ⌝ };
 
     // Whether two readings have one meaning.
     fn same(&self, other: &Self) -> bool
