@@ -1,0 +1,6 @@
+//! Lines of octets, their fields, and numbers written in decimal and hexadecimal.
+//! Octet 10 ends a line; every other octet is an ordinary one.
+mod buffer;
+mod gather;
+
+pub use buffer::Line;
