@@ -1,1 +1,2 @@
 mod Gathering
+mod Parting

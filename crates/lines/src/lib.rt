@@ -2,5 +2,7 @@
 //! Octet 10 ends a line; every other octet is an ordinary one.
 mod buffer;
 mod gather;
+mod split;
 
 pub use buffer::Line;
+pub use split::count_fields;
