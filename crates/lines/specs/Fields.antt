@@ -1,9 +1,9 @@
 -- The fields of a line, parted by single octets.
 use mathlib.Core.List.{List, [], _∷_}
-use mathlib.Core.Bool.{cond}
-use Prim.Native.Nat.{ℕ, zero, suc}
+use mathlib.Core.Bool.{Bool, true, cond}
+use Prim.Native.Nat.{ℕ, _+_}
 use lib.ListN.{drop}
-use lib.Dec.{eqb}
+use lib.Dec.{eqb, leb, ltb}
 use Rattle.std.specs.declared.option.Option.{Option}
 use Rattle.std.specs.declared.option.Option.the-variants.{Some, None}
 
@@ -17,13 +17,16 @@ abbrev pub fields : ℕ → List ℕ → List (List ℕ)
 fields p [] = [] ∷ []
 fields p (b ∷ bs) = cond (eqb b p) ([] ∷ fields p bs) (in-front b (fields p bs))
 
--- the field at a place, if there is one
-abbrev pub field-at : List (List ℕ) → ℕ → Option (List ℕ)
-field-at [] i = None
-field-at (f ∷ fs) zero = Some f
-field-at (f ∷ fs) (suc i) = field-at fs i
+-- where the next field begins after one that ends at a place of a line of so many octets, if one follows
+abbrev pub next-start : ℕ → ℕ → Option ℕ
+next-start count end = cond (ltb end count) (Some (end + 1)) None
 
--- the fields that are to come when the next one begins at a place, or when there is none
+-- whether a start, if there is one, is within a line of so many octets
+abbrev pub starts : ℕ → Option ℕ → Bool
+starts count None = true
+starts count (Some start) = leb start count
+
+-- the fields from a place of a line on, or none
 abbrev pub fields-left : ℕ → List ℕ → Option ℕ → List (List ℕ)
 fields-left p bs None = []
 fields-left p bs (Some start) = fields p (drop start bs)

@@ -1,8 +1,10 @@
 //! Lines of octets, their fields, and numbers written in decimal and hexadecimal.
 //! Octet 10 ends a line; every other octet is an ordinary one.
 mod buffer;
+mod cursor;
 mod gather;
 mod split;
 
 pub use buffer::Line;
+pub use cursor::Fields;
 pub use split::count_fields;

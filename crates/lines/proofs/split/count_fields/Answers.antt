@@ -6,14 +6,14 @@ use Rattle.lines.proofs.Parting.{parted, unparted, last-field}
 
 pub loop-octet-again : need.loop-octet-again
 loop-octet-again c =
-    elim (c .if-octet-part .came)
-        [ then-octet-part w ↦
-            let e = parted (c .args .part) (c .args .line .now) (c .loop-octet .octet-index) (omega arith) (w .if-octet-part .taken) in
-            (omega (arith, e, w .count-is), omega (arith, w .count-is))
-        | else-octet-part w ↦
-            let e = unparted (c .args .part) (c .args .line .now) (c .loop-octet .octet-index) (omega arith) (w .if-octet-part .left) in
-            (omega (arith, e, w .count-is), omega (arith, w .count-is))
-        ]
+    elim (c .if-octet-part .came) [
+      | then-octet-part w ↦
+          let e = parted (c .args .part) (c .args .line .now) (c .loop-octet .octet-index) (omega arith) (w .if-octet-part .taken) in
+          (omega (arith, e, w .count-is), omega (arith, w .count-is))
+      | else-octet-part w ↦
+          let e = unparted (c .args .part) (c .args .line .now) (c .loop-octet .octet-index) (omega arith) (w .if-octet-part .left) in
+          (omega (arith, e, w .count-is), omega (arith, w .count-is))
+    ]
 
 pub returns : need.returns
 returns c = omega (arith, last-field (c .args .part) (c .args .line .now) (c .loop-octet .octet-index) (omega arith))
