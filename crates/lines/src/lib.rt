@@ -8,3 +8,4 @@ mod split;
 pub use buffer::Line;
 pub use cursor::Fields;
 pub use split::count_fields;
+pub use split::field;

@@ -64,3 +64,14 @@ impl<'a> Fields<'a> {
         Some(&line[start..end])
     }
 }
+
+// The field at an index, counted from 0, if the line has one there.
+pub fn field(line: &[u8], part: u8, index: usize) -> Option<&[u8]>
+    ensures { λ r. ⌜ mapped (λ f. now f) r ≡ nth (fields part (now (line .entry))) index ⌝ }
+{
+    let mut walk = Fields::new(line, part);
+    for _k in 0..index {
+        let _ = walk.next()?;
+    }
+    walk.next()
+}
