@@ -1,3 +1,4 @@
 mod Gathering
 mod Parting
 mod Walking
+mod Reading

@@ -2,6 +2,7 @@
 //! Octet 10 ends a line; every other octet is an ordinary one.
 mod buffer;
 mod cursor;
+mod digits;
 mod gather;
 mod split;
 
@@ -9,3 +10,6 @@ pub use buffer::Line;
 pub use cursor::Fields;
 pub use split::count_fields;
 pub use split::field;
+pub use digits::decimal;
+pub use digits::hexadecimal;
+pub use digits::word;
