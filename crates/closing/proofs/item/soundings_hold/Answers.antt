@@ -1,0 +1,5 @@
+use Rattle.closing.proofs.Worked.{soundings}
+use Rattle.closing.proofs.item.soundings_hold.Needs as need
+
+pub returns : need.returns
+returns c = soundings
