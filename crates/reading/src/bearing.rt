@@ -32,14 +32,15 @@ impl Bearing {
     fn meaning(&self) -> u16
         ensures { λ r. ⌜ r ≡ bearingMeaning (now (self .entry)) ⌝ }
     {
-        self.hundredths % 36000
+        let Bearing { hundredths } = *self;
+        hundredths % 36000
     }
 }
 
 pub impl Reading for Bearing as BearingReading {
     type Wide = Octets<2>;
 
-    const WIDTH: Octets<2> = Octets;
+    const WIDTH: Self::Wide = Octets;
 
     ghost width = { 2 };
 

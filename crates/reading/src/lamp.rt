@@ -36,7 +36,7 @@ impl Lamp {
 pub impl Reading for Lamp as LampReading {
     type Wide = Octets<3>;
 
-    const WIDTH: Octets<3> = Octets;
+    const WIDTH: Self::Wide = Octets;
 
     ghost width = { 3 };
 
