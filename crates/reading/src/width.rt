@@ -13,7 +13,7 @@ pub trait Width: Copy {
 }
 
 // The width of N octets.
-#[derive(Clone, Copy, PartialEq, Eq, Debug)]
+#[derive(Clone, Copy)]
 pub struct Octets<const N: usize>;
 
 pub impl<const N: usize> Width for Octets<N> as OctetsWidth {
