@@ -2,3 +2,4 @@ mod Gathering
 mod Parting
 mod Walking
 mod Reading
+mod Pairs

@@ -1,9 +1,10 @@
 -- Numbers and octets that are written in digits.
-use mathlib.Core.List.{List, [], _∷_}
+use mathlib.Core.List.{List, [], _∷_, _++_}
 use mathlib.Core.Bool.{Bool, cond, _&&_}
-use Prim.Native.Nat.{ℕ, _+_, _-_, _*_}
-use lib.ListN.{length}
+use Prim.Native.Nat.{ℕ, _+_, _-_, _*_, _/_, _%_}
+use lib.ListN.{length, drop}
 use lib.Dec.{leb, ltb}
+use Rattle.std.specs.Options.{mapped}
 use Rattle.std.specs.declared.option.Option.{Option}
 use Rattle.std.specs.declared.option.Option.the-variants.{Some, None}
 
@@ -44,3 +45,30 @@ hexadecimal-of = numeral-of 16 1 16
 -- four hexadecimal digits
 abbrev pub word-of : List ℕ → Option ℕ
 word-of = numeral-of 16 4 4
+
+-- the octet that two hexadecimal digits write
+abbrev pub octet-of : ℕ → ℕ → Option ℕ
+octet-of high low = and-then (digit-of 16 high) (λ h. and-then (digit-of 16 low) (λ l. Some (h * 16 + l)))
+
+-- the octets that hexadecimal digits write, two digits an octet; none if there is a digit too many or another octet
+abbrev pub octets-of : List ℕ → Option (List ℕ)
+octets-of [] = Some []
+octets-of (high ∷ []) = None
+octets-of (high ∷ (low ∷ rest)) = and-then (octet-of high low) (λ o. mapped (λ os. o ∷ os) (octets-of rest))
+
+-- the octets that a field writes if there are some, and so many places for them; else none
+abbrev pub hex-octets-of : ℕ → List ℕ → Option (List ℕ)
+hex-octets-of places bs = and-then (octets-of bs) (λ os. cond (ltb 0 (length os) && leb (length os) places) (Some os) None)
+
+-- what lent places hold once octets are written to their front, or nothing is
+abbrev pub written : Option (List ℕ) → List ℕ → List ℕ
+written None places = places
+written (Some os) places = os ++ drop (length os) places
+
+-- the hexadecimal digit of a value below 16
+abbrev pub hex-digit : ℕ → ℕ
+hex-digit v = cond (ltb v 10) (48 + v) (65 + (v - 10))
+
+-- the two hexadecimal digits of an octet
+abbrev pub hex-digits : ℕ → List ℕ
+hex-digits o = hex-digit (o / 16) ∷ (hex-digit (o % 16) ∷ [])

@@ -6,7 +6,7 @@ ghost use Rattle.lines.specs.Digits.{digit-of, numeral-of, decimal-of, hexadec
 ghost use Rattle.std.specs.Slices.{found};
 
 // The value of a digit, 0 to 9 or A to F, in a base up to 16.
-fn digit(octet: u8, base: u8) -> Option<u8>
+pub(crate) fn digit(octet: u8, base: u8) -> Option<u8>
     ensures value { λ r. ⌜ r ≡ digit-of base octet ⌝ }
     ensures below { λ r. ⌜ found r (λ d. d < base) ⌝ }
 {

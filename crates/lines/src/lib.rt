@@ -4,12 +4,15 @@ mod buffer;
 mod cursor;
 mod digits;
 mod gather;
+mod hex;
 mod split;
 
 pub use buffer::Line;
 pub use cursor::Fields;
-pub use split::count_fields;
-pub use split::field;
 pub use digits::decimal;
 pub use digits::hexadecimal;
 pub use digits::word;
+pub use hex::hex_digits;
+pub use hex::hex_octets;
+pub use split::count_fields;
+pub use split::field;
