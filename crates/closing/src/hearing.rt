@@ -30,8 +30,19 @@ pub trait Hearing<R> {
         ensures { λ r. ⌜ r ≡ getD (marks (now (self .entry))) node 0 ⌝ };
 }
 
+// The element at a place, or another past the last.
+fn read_or<T: Copy>(elements: &[T], place: usize, past: T) -> T
+    ensures { λ r. ⌜ r ≡ getD (now (elements .entry)) place past ⌝ }
+{
+    if place < elements.len() {
+        elements[place]
+    } else {
+        past
+    }
+}
+
 // What was heard, in two lent slices.
-#[derive(Clone, Copy)]
+#[derive(Drop)]
 pub struct Heard<'a, R> {
     pub cells: &'a [Option<R>],
     pub marks: &'a [u8],
@@ -47,12 +58,7 @@ pub impl<'a, R: Copy> Hearing<R> for Heard<'a, R> as HeardHearing {
     }
 
     fn cell(&self, node: usize) -> Option<R> {
-        let cells = self.cells;
-        if node < cells.len() {
-            cells[node]
-        } else {
-            None
-        }
+        read_or(self.cells, node, None)
     }
 
     fn mark_count(&self) -> usize {
@@ -60,7 +66,6 @@ pub impl<'a, R: Copy> Hearing<R> for Heard<'a, R> as HeardHearing {
     }
 
     fn mark(&self, node: usize) -> u8 {
-        let marks = self.marks;
-        if node < marks.len() { marks[node] } else { 0 }
+        read_or(self.marks, node, 0)
     }
 }

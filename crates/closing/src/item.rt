@@ -29,50 +29,38 @@ fn count_heard(phase: Option<Phase>, n: usize, cells: usize, marks: usize) -> us
     }
 }
 
-// The closing in a step of this phase, from what the first n nodes sent.
-fn close_in<'a, R: Reading, C: Coin>(
-    phase: Phase,
-    close: ItemClose,
-    coin: &C,
-    cells: &'a [Option<R>],
-    marks: &'a [u8],
-) -> Closed<R>
-    requires { ⌜ close .n ≤ heard-count (Some phase) (close .n) (length (now cells)) (length (now marks)) ⌝ }
-    ensures { λ r. ⌜ r ≡ closed (R·Reading .meaning) (C·Coin .tosses (now (coin .entry))) (step-of close phase) (state-of close) (take (close .n) (now (cells .entry))) (take (close .n) (now (marks .entry))) ⌝ }
+// The step of this phase that an item is closed in, with the thresholds of n nodes.
+fn step_of(close: &ItemClose, phase: Phase) -> Step
+    ensures { λ r. ⌜ r ≡ step-of (now (close .entry)) phase ⌝ }
 {
-    let n = close.n;
-    let step = Step {
+    Step {
         phase,
         round: close.step / 3,
-        quorum: quorum(n),
-        weak_quorum: weak_quorum(n),
-    };
-    let state = ItemState {
+        quorum: quorum(close.n),
+        weak_quorum: weak_quorum(close.n),
+    }
+}
+
+// How the node stands with the item.
+fn state_of(close: &ItemClose) -> ItemState
+    ensures { λ r. ⌜ r ≡ state-of (now (close .entry)) ⌝ }
+{
+    ItemState {
         node: close.node,
         item: close.item,
         bit: close.bit == 1,
         decided: close.decided,
-    };
-    if phase.sends_cells() {
-        close_heard(
-            &step,
-            &state,
-            coin,
-            &Heard {
-                cells: &cells[0..n],
-                marks: &marks[0..0],
-            },
-        )
+    }
+}
+
+// The first n elements, or all where there are fewer.
+fn front<T>(elements: &[T], n: usize) -> &[T]
+    ensures { λ r. ⌜ now r ≡ take n (now (elements .entry)) ⌝ }
+{
+    if n < elements.len() {
+        &elements[0..n]
     } else {
-        close_heard(
-            &step,
-            &state,
-            coin,
-            &Heard {
-                cells: &cells[0..0],
-                marks: &marks[0..n],
-            },
-        )
+        elements
     }
 }
 
@@ -103,7 +91,13 @@ pub fn close_item<'a, R: Reading, C: Coin>(
         return Err(Refusal::WrongPhase);
     }
     match phase {
-        Some(phase) => Ok(close_in(phase, close, coin, cells, marks)),
+        Some(phase) => {
+            let heard = Heard {
+                cells: front(cells, n),
+                marks: front(marks, n),
+            };
+            Ok(close_heard(&step_of(&close, phase), &state_of(&close), coin, &heard))
+        }
         None => Err(Refusal::Over),
     }
 }
