@@ -1,0 +1,4 @@
+pub mod HexLaws
+pub mod AllLaws
+pub mod StripLaws
+pub mod WholeLine
