@@ -2,10 +2,13 @@
 use mathlib.Core.Path.{_≡_, refl, sym, ap, _∙_}
 use mathlib.Core.Bool.{Bool, true, false, cond}
 use mathlib.Core.List.{List, [], _∷_, _++_}
-use Prim.Native.Nat.{ℕ, _-_}
+use Prim.Native.Nat.{ℕ, _-_, _≤_}
 use native.Mathlib.Omega.{arith}
 use lib.ListN.{length, getD, take, drop}
+use lib.Dec.{ltb}
 use Rattle.std.proofs.shelf.Lists.{take-at}
+use Rattle.std.proofs.shelf.Tests.{le-ltb}
+use Rattle.reading.specs.Octets.{placed}
 use Rattle.std.specs.Options.{mapped, okOr}
 use Rattle.std.specs.declared.option.Option.{Option}
 use Rattle.std.specs.declared.option.Option.the-variants.{Some, None}
@@ -48,3 +51,9 @@ cell-read reads f out k x d h e =
     let n : k - 0 ≡ k = omega arith in
     let e′ : reads (take k out) ≡ x = rw n at e in
     rw (← d, h, e′)
+
+-- octets of a width up to that of the place stand at its front
+pub front-placed : (o place out : List ℕ) (w k : ℕ) → length o ≡ w → k ≡ w → w ≤ length place → out ≡ placed w o place → take k out ≡ o
+front-placed o place out w k l e h p =
+    let f : ltb (length place) w ≡ false = le-ltb (length place) w h in
+    ap (take k) (p ∙ rw f) ∙ take-at o (drop w place) k (l ∙ sym e)
