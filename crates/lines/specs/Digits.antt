@@ -43,8 +43,8 @@ abbrev pub hexadecimal-of : List ℕ → Option ℕ
 hexadecimal-of = numeral-of 16 1 16
 
 -- four hexadecimal digits
-abbrev pub word-of : List ℕ → Option ℕ
-word-of = numeral-of 16 4 4
+abbrev pub hex-word-of : List ℕ → Option ℕ
+hex-word-of = numeral-of 16 4 4
 
 -- the octet that two hexadecimal digits write
 abbrev pub octet-of : ℕ → ℕ → Option ℕ
