@@ -16,3 +16,4 @@ pub use hex::hex_digits;
 pub use hex::hex_octets;
 pub use split::count_fields;
 pub use split::field;
+pub use split::field_place;

@@ -3,7 +3,7 @@ ghost use mathlib.Core.Path.{_≡_};
 ghost use mathlib.Core.List.{_∷_};
 ghost use Prim.Native.Nat.{ℕ, _-_, _≤_};
 ghost use lib.ListN.{length, take, drop};
-ghost use Rattle.lines.specs.Fields.{fields, fields-left, next-start};
+ghost use Rattle.lines.specs.Fields.{fields, fields-left, next-start, place-of};
 ghost use Rattle.lines.specs.Walk.{to-come};
 ghost use Rattle.std.specs.Options.{mapped};
 ghost use Rattle.std.specs.shelf.Maps.{nth};
@@ -74,4 +74,19 @@ pub fn field(line: &[u8], part: u8, index: usize) -> Option<&[u8]>
         let _ = walk.next()?;
     }
     walk.next()
+}
+
+// Where the field at an index, counted from 0, begins in the line, if there is one.
+pub fn field_place(line: &[u8], part: u8, index: usize) -> Option<usize>
+    ensures { λ r. ⌜ r ≡ place-of (fields part (now (line .entry))) index ⌝ }
+{
+    let mut start = 0;
+    for _k in 0..index {
+        let end = field_end(line, part, start);
+        if end == line.len() {
+            return None;
+        }
+        start = end + 1;
+    }
+    Some(start)
 }
