@@ -1,6 +1,6 @@
 //! Numbers in decimal and hexadecimal.
 ghost use mathlib.Core.Path.{_≡_};
-ghost use Prim.Native.Nat.{ℕ, _^_, _<_, _≤_};
+ghost use Prim.Native.Nat.{_^_, _<_, _≤_};
 ghost use lib.ListN.{length};
 ghost use Rattle.lines.specs.Digits.{digit-of, numeral-of, decimal-of, hexadecimal-of, hex-word-of};
 ghost use Rattle.std.specs.Slices.{found};

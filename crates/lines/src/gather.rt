@@ -1,7 +1,6 @@
 //! Gathering octets into a line.
 ghost use mathlib.Core.Path.{_≡_};
-ghost use Prim.Native.Nat.{ℕ, min};
-ghost use lib.ListN.{length};
+ghost use Prim.Native.Nat.{min};
 ghost use Rattle.lines.specs.Gathered.{held, empty, pushed, line-answer, gathered};
 ghost use Rattle.std.specs.Results.{mapped};
 use crate::buffer::Line;

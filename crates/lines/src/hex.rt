@@ -1,8 +1,8 @@
 //! Octets in hexadecimal.
 ghost use mathlib.Core.Path.{_≡_};
 ghost use mathlib.Core.Bool.{true};
-ghost use mathlib.Core.List.{List, [], _∷_};
-ghost use Prim.Native.Nat.{ℕ, _*_, _<_, _≤_};
+ghost use mathlib.Core.List.{[], _∷_};
+ghost use Prim.Native.Nat.{_*_, _<_, _≤_};
 ghost use lib.ListN.{length};
 ghost use Rattle.lines.specs.Digits.{octet-of, octets-of, hex-octets-of, written, hex-digit, hex-digits};
 ghost use Rattle.std.specs.Options.{isSome, mapped};

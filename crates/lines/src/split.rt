@@ -1,7 +1,7 @@
 //! The fields of a line.
 ghost use mathlib.Core.Path.{_≡_};
 ghost use mathlib.Core.List.{_∷_};
-ghost use Prim.Native.Nat.{ℕ, _-_, _≤_};
+ghost use Prim.Native.Nat.{_-_, _≤_};
 ghost use lib.ListN.{length, take, drop};
 ghost use Rattle.lines.specs.Fields.{fields, fields-left, next-start, place-of};
 ghost use Rattle.lines.specs.Walk.{to-come};

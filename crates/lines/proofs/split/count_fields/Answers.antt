@@ -1,4 +1,3 @@
-use borrow.Author.Needs.{needs}
 use native.Mathlib.Omega.{arith}
 use Rattle.lines.proofs.split.count_fields.Needs as need
 use Rattle.lines.proofs.split.count_fields.Needs.{then-octet-part, else-octet-part}

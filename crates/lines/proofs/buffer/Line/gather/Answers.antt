@@ -1,4 +1,3 @@
-use mathlib.Core.Path.{sym, _∙_, ap}
 use borrow.Author.Needs.{needs}
 use Rattle.std.proofs.shelf.Lists.{take-all}
 use Rattle.lines.proofs.buffer.Line.gather.Needs as need
