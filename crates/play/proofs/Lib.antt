@@ -1,0 +1,4 @@
+pub mod Counts
+pub mod Pushes
+pub mod Laws
+pub mod Endings
