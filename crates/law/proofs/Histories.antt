@@ -24,7 +24,8 @@ use Rattle.law.specs.declared.calls.Call.{Call}
 use Rattle.law.specs.declared.calls.Call.the-variants as call
 use Rattle.law.specs.declared.calls.Answer.{Answer}
 use Rattle.law.specs.declared.calls.Answer.the-variants as answer
-use Rattle.law.specs.Runs.{World, Move, Asked, Ask, refusal, effect, says, if-accepted, answer-of, is-refused, decision-answer, after, answered-by, run, history, outcome-history, outcome-answer}
+use Rattle.law.specs.Runs.{World, Move, Asked, Ask, refusal, effect, says, answer-of, is-refused, decision-answer, after, answered-by, run, history, outcome-history, outcome-answer}
+use Rattle.board.specs.Setups.{if-accepted}
 use Rattle.law.specs.Law.{is-close, closes-before}
 use Rattle.law.proofs.Items.{Timely, step-number, step-next}
 use Rattle.law.proofs.Worlds.{Fits, fits-after}

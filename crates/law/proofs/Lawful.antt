@@ -15,12 +15,12 @@ use Rattle.coin.specs.Tosses.{toss-of}
 use Rattle.closing.specs.Counting.{means, quorum-of, weak-quorum-of}
 use Rattle.board.specs.declared.states.Table.{Table}
 use Rattle.board.specs.Tables.{with-node, bit-at, decided-at, final-at}
-use Rattle.board.specs.Setups.{propose-refusal}
+use Rattle.board.specs.Setups.{propose-refusal, if-accepted}
 use Rattle.agreement.specs.Setups.{marked, mark-faulty-refusal}
 use Rattle.law.specs.declared.calls.SetupCall.{SetupCall}
 use Rattle.law.specs.declared.calls.SetupCall.the-variants.{MarkFaulty, Propose}
 use Rattle.law.specs.declared.calls.Answer.the-variants as answer
-use Rattle.law.specs.Runs.{Tosses, SetupMove, Prepared, SetupAsked, setup-refusal, setup-effect, setup-after, setup-run, setup-history, if-accepted, answer-of, World, Move, Ask, run, history, outcome-history}
+use Rattle.law.specs.Runs.{Tosses, SetupMove, Prepared, SetupAsked, setup-refusal, setup-effect, setup-after, setup-run, setup-history, answer-of, World, Move, Ask, run, history, outcome-history}
 use Rattle.law.specs.Law.{Sizes, Boards, start, open-world, setup-asked, asked, is-faulty, began, Few-faulty, second-step, began-count, Open-after, Kept, Plain, with-coin, Tosses-alike, Delayed, Law}
 use Rattle.law.proofs.Tallies.{tally, counted-nodes}
 use Rattle.law.proofs.Quorums.{Quorum}

@@ -20,12 +20,12 @@ use Rattle.closing.specs.Counting.{quorum-of, weak-quorum-of}
 use Rattle.board.specs.declared.states.Node.{Node}
 use Rattle.board.specs.declared.states.Table.{Table}
 use Rattle.board.specs.Tables.{new-node, no-node, node-at, faulty-at, decided-at, value-at, cell-place, with-node}
-use Rattle.board.specs.Setups.{propose-refusal}
+use Rattle.board.specs.Setups.{propose-refusal, if-accepted}
 use Rattle.agreement.specs.Setups.{marked, mark-faulty-refusal}
 use Rattle.law.specs.declared.calls.SetupCall.{SetupCall}
 use Rattle.law.specs.declared.calls.SetupCall.the-variants.{MarkFaulty, Propose}
 use Rattle.law.specs.declared.calls.Answer.the-variants as answer
-use Rattle.law.specs.Runs.{SetupMove, Prepared, setup-refusal, setup-effect, setup-after, setup-answer, setup-run, setup-history, if-accepted, is-refused, answer-of}
+use Rattle.law.specs.Runs.{SetupMove, Prepared, setup-refusal, setup-effect, setup-after, setup-answer, setup-run, setup-history, is-refused, answer-of}
 use Rattle.law.specs.Law.{Sizes, Boards, start, open-world, setup-asked, is-faulty, marks-node, began, began-from, proposed, faulty-count}
 use Rattle.law.proofs.Tallies.{tally, counted-nodes}
 use Rattle.law.proofs.Quorums.{Quorum}

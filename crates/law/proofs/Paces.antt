@@ -25,7 +25,8 @@ use Rattle.agreement.specs.Closes.{next-phase, next-round}
 use Rattle.agreement.specs.Calls.{is-over, send-checks, with-final}
 use Rattle.law.specs.declared.calls.Call.{Call}
 use Rattle.law.specs.declared.calls.Call.the-variants as call
-use Rattle.law.specs.Runs.{Tosses, World, refusal, effect, if-accepted, after}
+use Rattle.law.specs.Runs.{Tosses, World, refusal, effect, after}
+use Rattle.board.specs.Setups.{if-accepted}
 use Rattle.law.specs.Law.{Plain}
 use Rattle.law.proofs.Boards.{written-at}
 use Rattle.law.proofs.Worlds.{Fits, item-of, closed-world, closed-finals, effect-quiet}

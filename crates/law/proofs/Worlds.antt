@@ -20,7 +20,8 @@ use Rattle.agreement.specs.Closes.{value-after, node-after, closed-at}
 use Rattle.agreement.specs.Calls.{with-final}
 use Rattle.law.specs.declared.calls.Call.{Call}
 use Rattle.law.specs.declared.calls.Call.the-variants as call
-use Rattle.law.specs.Runs.{Tosses, World, Move, refusal, effect, if-accepted, after, run}
+use Rattle.law.specs.Runs.{Tosses, World, Move, refusal, effect, after, run}
+use Rattle.board.specs.Setups.{if-accepted}
 use Rattle.law.proofs.Boards.{length-written, written-at, set-keeps, written-keeps}
 use Rattle.law.proofs.Items.{Item, Closing, Timely, timely-next}
 

@@ -12,7 +12,7 @@ use Rattle.board.specs.declared.states.Table.{Table}
 use Rattle.board.specs.Tables.{with-node, cell-place, undecided-count, marks-after}
 use Rattle.board.specs.declared.states.Decision.{Decision}
 use Rattle.board.specs.declared.states.Decision.the-variants.{Undecided, Decided}
-use Rattle.board.specs.Setups.{propose-refusal}
+use Rattle.board.specs.Setups.{if-accepted, propose-refusal}
 use Rattle.board.specs.Looks.{decision-refusal, decision-of}
 use Rattle.agreement.specs.declared.states.Instance.{Instance}
 use Rattle.agreement.specs.Setups.{marked, mark-faulty-refusal}
@@ -41,11 +41,6 @@ is-refused answer.Done = false
 is-refused answer.Open = false
 is-refused (answer.Decided x) = false
 is-refused (answer.Count k) = false
-
--- what stands where a call was refused, and where it was accepted
-abbrev pub if-accepted : {X : Type 0} → Option Refusal → X → X → X
-if-accepted None new old = new
-if-accepted (Some e) new old = old
 
 -- A setup call as it is made; `fits` is whether the boards that it brings are long enough.
 pub record SetupMove (R : Type 0) : Type 0 where

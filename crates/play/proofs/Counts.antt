@@ -29,7 +29,8 @@ use Rattle.agreement.specs.Done.{Close-done}
 use Rattle.law.specs.declared.calls.Call.the-variants as call
 use Rattle.law.specs.declared.calls.Answer.{Answer}
 use Rattle.law.specs.declared.calls.Answer.the-variants as answer
-use Rattle.law.specs.Runs.{Tosses, World, effect, answer-of, if-accepted}
+use Rattle.law.specs.Runs.{Tosses, World, effect, answer-of}
+use Rattle.board.specs.Setups.{if-accepted}
 use Rattle.play.specs.Moves.{Lent, answer-from, world-of}
 
 -- no more than 256 items are undecided

@@ -16,12 +16,12 @@ use Rattle.board.specs.declared.states.Table.{Table}
 use Rattle.agreement.specs.declared.states.Instance.{Instance}
 use Rattle.board.specs.Tables.{fits}
 use Rattle.board.specs.Tables.{written}
-use Rattle.board.specs.Setups.{blank-values, blank-marks}
+use Rattle.board.specs.Setups.{blank-values, blank-marks, if-accepted}
 use Rattle.law.specs.declared.calls.SetupCall.{SetupCall}
 use Rattle.law.specs.declared.calls.Call.{Call}
 use Rattle.law.specs.declared.calls.Call.the-variants as call
 use Rattle.law.specs.declared.calls.Answer.{Answer}
-use Rattle.law.specs.Runs.{Tosses, Prepared, SetupMove, SetupAsked, setup-after, setup-answer, setup-history, World, Move, Asked, refusal, effect, if-accepted, answered-by, after, run, history, outcome-history}
+use Rattle.law.specs.Runs.{Tosses, Prepared, SetupMove, SetupAsked, setup-after, setup-answer, setup-history, World, Move, Asked, refusal, effect, answered-by, after, run, history, outcome-history}
 use Rattle.law.specs.Law.{Sizes, Boards, Plain, with-coin, asked, setup-asked, faulty-count, Kept, Tosses-alike, Delayed}
 use Rattle.law.proofs.Lawful.{law}
 use Rattle.law.proofs.Boards.{length-written}

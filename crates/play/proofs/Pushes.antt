@@ -20,7 +20,8 @@ use Rattle.law.specs.declared.calls.SetupCall.the-variants.{MarkFaulty, Propose
 use Rattle.law.specs.declared.calls.Call.{Call}
 use Rattle.law.specs.declared.calls.Call.the-variants as call
 use Rattle.law.specs.declared.calls.Answer.{Answer}
-use Rattle.law.specs.Runs.{Tosses, SetupMove, SetupAsked, Prepared, setup-after, setup-answer, setup-run, setup-history, setup-refusal, setup-effect, Move, World, Asked, refusal, effect, if-accepted, after, answered-by, run, history}
+use Rattle.law.specs.Runs.{Tosses, SetupMove, SetupAsked, Prepared, setup-after, setup-answer, setup-run, setup-history, setup-refusal, setup-effect, Move, World, Asked, refusal, effect, after, answered-by, run, history}
+use Rattle.board.specs.Setups.{if-accepted}
 use Rattle.play.specs.Played.{made-setup, asked-first, called-setup, first-world, asked-next, Ran}
 use Rattle.play.specs.Moves.{Lent, fits-call, move-of, moves-of, setup-move-of, setup-moves-of, Setup-made, Made, world-of, surplus, setup-says, call-says}
 

@@ -17,7 +17,8 @@ use Rattle.law.specs.declared.calls.Call.{Call}
 use Rattle.law.specs.declared.calls.Call.the-variants as call
 use Rattle.law.specs.declared.calls.Answer.{Answer}
 use Rattle.law.specs.declared.calls.Answer.the-variants as answer
-use Rattle.law.specs.Runs.{Tosses, SetupMove, SetupAsked, Prepared, setup-after, setup-answer, Move, World, Asked, refusal, says, effect, answer-of, if-accepted}
+use Rattle.law.specs.Runs.{Tosses, SetupMove, SetupAsked, Prepared, setup-after, setup-answer, Move, World, Asked, refusal, says, effect, answer-of}
+use Rattle.board.specs.Setups.{if-accepted}
 
 -- The four boards as they are lent.
 pub record Lent (R : Type 0) : Type 0 where
