@@ -1,4 +1,9 @@
 //! A script, and its performance on boards of its own.
+ghost use mathlib.Core.List.{[], _∷_, _++_};
+ghost use mathlib.Core.Path.{_≡_};
+ghost use Rattle.rehearsal.specs.Scripts.{Answers-lawful};
+ghost use Rattle.std.specs.Of.Vec.{vec-items};
+ghost use Rattle.std.specs.Vec.{made};
 use coin::Coin;
 use law::Answer;
 use law::Call;
@@ -20,7 +25,9 @@ pub struct Script<R> {
 
 impl<R: Drop> Script<R> {
     // A script with no calls yet.
-    pub fn new(heap: Global, n: usize, m: usize) -> Script<R> {
+    pub fn new(heap: Global, n: usize, m: usize) -> Script<R>
+        ensures { λ r. ⌜ (r .n ≡ n) × (r .m ≡ m) × (vec-items (r .setup) ≡ []) × (vec-items (r .calls) ≡ []) ⌝ }
+    {
         Script {
             n,
             m,
@@ -30,13 +37,19 @@ impl<R: Drop> Script<R> {
     }
 
     // Adds a call on the setup.
-    pub fn first(&mut self, call: SetupCall<R>) -> Result<(), AllocError> {
+    pub fn first(&mut self, call: SetupCall<R>) -> Result<(), AllocError>
+        ensures added { λ r. ⌜ made r (λ _. vec-items (now (self .exit) .setup) ≡ vec-items (now (self .entry) .setup) ++ call ∷ []) ⌝ }
+        ensures same { λ _. ⌜ (now (self .exit) .calls ≡ now (self .entry) .calls) × (now (self .exit) .n ≡ now (self .entry) .n) × (now (self .exit) .m ≡ now (self .entry) .m) ⌝ }
+    {
         self.setup.push(call)?;
         Ok(())
     }
 
     // Adds a call on the instance.
-    pub fn then(&mut self, call: Call<R>) -> Result<(), AllocError> {
+    pub fn then(&mut self, call: Call<R>) -> Result<(), AllocError>
+        ensures added { λ r. ⌜ made r (λ _. vec-items (now (self .exit) .calls) ≡ vec-items (now (self .entry) .calls) ++ call ∷ []) ⌝ }
+        ensures same { λ _. ⌜ (now (self .exit) .setup ≡ now (self .entry) .setup) × (now (self .exit) .n ≡ now (self .entry) .n) × (now (self .exit) .m ≡ now (self .entry) .m) ⌝ }
+    {
         self.calls.push(call)?;
         Ok(())
     }
@@ -66,7 +79,9 @@ pub fn perform<R: Reading, C: Coin>(
     heap: Global,
     script: &Script<R>,
     coin: &C,
-) -> Result<Vec<Answer<R>>, AnyError> {
+) -> Result<Vec<Answer<R>>, AnyError>
+    ensures { λ r. ⌜ made r (λ v. Answers-lawful (R·Reading .meaning) (C·Coin .tosses (now (coin .entry))) (now (script .entry) .n) (now (script .entry) .m) (vec-items (now (script .entry) .setup)) (vec-items (now (script .entry) .calls)) (vec-items v)) ⌝ }
+{
     let mut values = filled(heap, None, 256)?;
     let mut scratch = filled(heap, None, 256)?;
     let mut sent = filled(heap, None, 4096)?;
