@@ -18,7 +18,7 @@ use Rattle.closing.specs.declared.types.ItemClose.{ItemClose}
 use Rattle.closing.specs.declared.types.Closed.{Closed}
 use Rattle.closing.specs.Closings.{item-answer}
 use Rattle.lines.specs.Fields.{fields}
-use Rattle.lines.specs.Digits.{and-then, decimal-of, word-of, hex-octets-of}
+use Rattle.lines.specs.Digits.{and-then, decimal-of, hex-word-of, hex-octets-of}
 
 -- whether a field is a dash
 abbrev pub is-dash : List ℕ → Bool
@@ -31,7 +31,7 @@ all-of p (f ∷ fs) = and-then (p f) (λ x. mapped (λ xs. x ∷ xs) (all-of p f
 
 -- a strip's entries: a dash for none, or one to eight of four hexadecimal digits each, parted by commas
 abbrev pub entries-of : List ℕ → Option (List ℕ)
-entries-of f = cond (is-dash f) (Some []) (cond (leb (length (fields 44 f)) 8) (all-of word-of (fields 44 f)) None)
+entries-of f = cond (is-dash f) (Some []) (cond (leb (length (fields 44 f)) 8) (all-of hex-word-of (fields 44 f)) None)
 
 -- a cell: a dash for none, or a reading's octets in hexadecimal
 abbrev pub cell-of : {R : Type 0} → (List ℕ → Option R) → List ℕ → Option (Option R)

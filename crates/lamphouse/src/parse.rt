@@ -3,14 +3,14 @@ ghost use mathlib.Core.List.{List};
 ghost use mathlib.Core.Path.{_≡_};
 ghost use Prim.Native.Nat.{ℕ};
 ghost use Rattle.lamphouse.specs.Grammar.{is-dash, cell-of, mark-in, number-at, flag-of, close-of};
-ghost use Rattle.lines.specs.Digits.{word-of};
+ghost use Rattle.lines.specs.Digits.{hex-word-of};
 ghost use Rattle.lines.specs.Fields.{fields};
 ghost use Rattle.std.specs.declared.option.Option.{Option};
 use closing::ItemClose;
 use lines::decimal;
 use lines::field;
 use lines::hex_octets;
-use lines::word;
+use lines::hex_word;
 use reading::Reading;
 
 // What one field of a list stands for.
@@ -30,10 +30,10 @@ pub fn dash(field: &[u8]) -> bool
 
 // A strip's entry: four hexadecimal digits.
 pub impl Parse for u16 as EntryParse {
-    ghost parses = { word-of };
+    ghost parses = { hex-word-of };
 
     fn parse(field: &[u8]) -> Option<u16> {
-        word(field)
+        hex_word(field)
     }
 }
 
