@@ -1,4 +1,6 @@
 //! One run of the agreement: its states and the calls on them.
+#![tactic(auto)]
+
 mod close;
 mod looks;
 mod phase;

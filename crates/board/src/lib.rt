@@ -1,4 +1,6 @@
 //! The table of nodes and the lent boards.
+#![tactic(auto)]
+
 pub mod grid;
 mod list;
 mod looks;

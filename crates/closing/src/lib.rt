@@ -1,4 +1,6 @@
 //! One node's closing of one item: counting what was heard, grading it, and deciding.
+#![tactic(auto)]
+
 pub mod counting;
 pub mod hearing;
 pub mod item;

@@ -1,4 +1,6 @@
 //! Coins: the bit that each node gets for a round and an item. True is 1.
+#![tactic(auto)]
+
 ghost use Rattle.std.specs.Prelude.{◌≡◌, ℕ, Bool, length};
 ghost use Rattle.coin.specs.Tosses.{toss_of, no_toss, strip_toss, strip_refusal, seeded_toss, crossed_toss};
 ghost use Rattle.refusal.specs.Refusals.{answered};

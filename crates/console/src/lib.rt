@@ -1,4 +1,6 @@
 //! The lines that a harbour is run by: what a line asks for, and when it is in turn.
+#![tactic(auto)]
+
 mod commands;
 mod fields;
 mod letters;

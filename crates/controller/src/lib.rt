@@ -1,4 +1,6 @@
 //! Calls for controllers that are written in C or Rust: numbers, octets and structs in C's layout cross, and nothing is allocated.
+#![tactic(auto)]
+
 mod cells;
 pub mod close;
 mod faults;

@@ -1,4 +1,6 @@
 //! A run at a desk: the commands of lines, made on the agreement with boards and a strip of its own.
+#![tactic(auto)]
+
 mod make;
 mod rows;
 mod run;

@@ -1,4 +1,6 @@
 //! Runs one agreement from the lines of standard input, and writes what they answer.
+#![tactic(auto)]
+
 use std::io::{Read, Write};
 use transcript::Harbour;
 

@@ -1,4 +1,6 @@
 //! What the honest nodes hear, and what the close of a step makes of the table and the boards.
+#![tactic(auto)]
+
 pub mod close;
 mod ear;
 

@@ -1,4 +1,6 @@
 //! Answers each line of standard input: closes one item at one node, or runs one node from the messages that it hears.
+#![tactic(auto)]
+
 mod begin;
 mod cell;
 mod heard;

@@ -1,4 +1,6 @@
 //! The law of the agreement over whole runs.
+#![tactic(auto)]
+
 ghost use Rattle.law.specs.Law.{Law};
 ghost use Rattle.law.specs.Samples.{Samples};
 

@@ -1,5 +1,5 @@
 use Rattle.std.proofs.Common.{◌≡◌, ℕ, ◌+◌, ◌-◌, ◌*◌, ◌<◌, ◌≤◌, true, false, cond, ◌&&◌, ltb, leb, ◌⊎◌, List, [], ◌∷◌, ◌++◌, length, get_or, take, drop, set, is_some, Some, None, Option, sym, refl, ap, ◌∙◌, inl, inr, arith}
-use mathlib.Core.Bool.{and_false}
+use mathlib.Core.Bool.{and-false}
 use Rattle.std.specs.Option.{option_map}
 use Rattle.std.proofs.lemmas.List.{append_assoc, append-nil, take_rest, take-append-drop, take_more_set, drop-drop, drop-set-lt, length-drop, length-take-le}
 use Rattle.std.proofs.lemmas.Bool.{true≢false, le-ltb, lt-leb}
@@ -74,7 +74,7 @@ none_fit (Some os) n places e (inl z) =
 none_fit (Some os) n places e (inr l) =
     let same : n ≡ length os = cc in
     let over : leb (length os) places ≡ false = lt-leb (length os) places (omega arith) in
-    rw (over, and_false (ltb 0 (length os)))
+    rw (over, and-false (ltb 0 (length os)))
 
 -- a field of no octets, or of more than there are places for
 pub no_octets : (bs : List ℕ) (n places : ℕ) → Some n ≡ option_map (λ os. length os) (octets_of bs) → (n ≡ 0) ⊎ (places < n) → hex_octets_of places bs ≡ None

@@ -1,5 +1,7 @@
 //! Lines of octets, their fields, and numbers written in decimal and hexadecimal.
 //! Octet 10 ends a line; every other octet is an ordinary one.
+#![tactic(auto)]
+
 mod buffer;
 mod cursor;
 mod digits;

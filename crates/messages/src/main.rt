@@ -1,4 +1,6 @@
 //! Reads one message a line, and prints what it says or what is wrong with it.
+#![tactic(auto)]
+
 mod says;
 mod task;
 

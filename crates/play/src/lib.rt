@@ -1,4 +1,6 @@
 //! A whole script, played through the calls of a run.
+#![tactic(auto)]
+
 ghost use Rattle.std.specs.Prelude.{◌≡◌, ◌+◌, length, nat_le};
 ghost use Rattle.play.specs.Played.{bad_sizes, play_refusal, Plays};
 ghost use Rattle.refusal.specs.Refusals.{answered};

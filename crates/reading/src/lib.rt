@@ -1,4 +1,6 @@
 //! Kinds of reading: what a kind owes, and the kinds there are.
+#![tactic(auto)]
+
 ghost use Rattle.std.specs.Prelude.{◌≡◌, ℕ, ◌<◌, ◌≤◌, List, length, Some, Option, ◌==◌, slice_index};
 ghost use Rattle.std.specs.Option.{ok_or};
 ghost use Rattle.refusal.specs.declared.Refusal.TheVariants.{StrangeReading};

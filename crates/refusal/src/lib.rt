@@ -1,4 +1,6 @@
 //! The refusals: one number and one word for each way in which a call says no.
+#![tactic(auto)]
+
 ghost use Rattle.std.specs.Prelude.{◌≡◌, Some};
 ghost use Rattle.refusal.specs.Refusals.{number, word};
 

@@ -1,4 +1,6 @@
 //! Plays scripts, and prints what was decided, when, and whether the answers agree.
+#![tactic(auto)]
+
 mod fixed;
 mod generate;
 mod random;

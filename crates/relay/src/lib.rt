@@ -1,4 +1,6 @@
 //! Messages between the nodes: one that came in is delivered to an instance, and an honest node's own is written.
+#![tactic(auto)]
+
 mod incoming;
 mod outgoing;
 

@@ -1,4 +1,6 @@
 //! Readings as text: how a kind spells its readings, and how a field of a line is read.
+#![tactic(auto)]
+
 ghost use Rattle.std.specs.Prelude.{◌≡◌, ℕ, Bool, true, false, List, [], ◌∷◌, Some, Option};
 ghost use Rattle.lines.specs.Fields.{fields, is_dash};
 ghost use Rattle.spelling.specs.Texts.{Wrote};

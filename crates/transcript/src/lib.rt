@@ -1,4 +1,6 @@
 //! A whole run as text: the octets that come in, and the text that answers them.
+#![tactic(auto)]
+
 mod answers;
 mod harbour;
 mod rows;

@@ -1,4 +1,6 @@
 //! Runs stored cases: each input is fed to a harbour, and the text that answers it is compared with the stored one.
+#![tactic(auto)]
+
 mod compare;
 mod trial;
 

@@ -1,4 +1,6 @@
 //! The octets that nodes exchange, read and written.
+#![tactic(auto)]
+
 mod bits;
 mod faults;
 mod items;

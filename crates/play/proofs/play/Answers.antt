@@ -20,6 +20,6 @@ returns-in-Ok g c =
     let e = c.in-Ok.ensures in
     let h = script_played g.R.Reading.meaning (g.C.Coin.tosses c.args.coin.now) c.args.n c.args.m c.args.setup.now c.args.calls.now
     (record { values = c.args.values.now; scratch = c.args.scratch.now; sent = c.args.sent.now; marks = c.args.marks.now })
-    (record { values = c.run-script.new.values; scratch = c.run-script.new.scratch; sent = c.run-script.new.sent; marks = c.run-script.new.marks })
-    c.new.new.values c.new.new.marks c.args.answers.now c.run-script.new.answers c.in-Ok.made bad room e.answer e.values e.marks c.run-script.ensures in
+    (record { values = c.run_script.new.values; scratch = c.run_script.new.scratch; sent = c.run_script.new.sent; marks = c.run_script.new.marks })
+    c.new.new.values c.new.new.marks c.args.answers.now c.run_script.new.answers c.in-Ok.made bad room e.answer e.values e.marks c.run_script.ensures in
     record { answer = h.0; plays = h.1 }

@@ -7,6 +7,6 @@ returns g c =
     let s = c.stride-stride.result in
     let i = c.args.index in
     let d : i * s + s - i * s ≡ s = omega arith in
-    c.read-item.ensures
+    c.read_item.ensures
     ∙ ap (λ n. cell_of g.R.Reading.reads (take n (drop (i * s) c.args.octets.now))) d
     ∙ ap (λ n. cell_of g.R.Reading.reads (take n (drop (i * n) c.args.octets.now))) c.stride-stride.ensures

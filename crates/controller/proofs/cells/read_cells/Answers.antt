@@ -13,18 +13,18 @@ use Rattle.controller.proofs.cells.read_cells.Goals as goal
 pub loop-i-init : goal.loop-i-init
 loop-i-init g c = (ap (cells_fault g.R.Reading.width g.R.Reading.reads c.args.octets.now 0) (let z : c.args.count - 0 ≡ c.args.count = omega arith in z), laid_none c.args.cells.now)
 
-pub read-cell-requires : goal.read-cell-requires
-read-cell-requires g c =
+pub read_cell-requires : goal.read_cell-requires
+read_cell-requires g c =
     let i = c.loop-i.i in
     let s = g.R.Reading.width + 1 in
     omega (arith, row_fits i c.args.count s (length c.args.octets.now) c.loop-i-test.true c.requires, rows_less (i + 1) i s (omega arith))
 
-pub overflow-add-result : goal.overflow-add-result
-overflow-add-result g c =
+pub overflow_add-result : goal.overflow_add-result
+overflow_add-result g c =
     let i = c.loop-i.i in
     let s = g.R.Reading.width + 1 in
     let e : i * c.stride.result ≡ i * s = ap (λ n. i * n) c.stride.ensures in
-    omega (arith, c.well-formed, row_fits i c.args.count s (length c.args.octets.now) c.loop-i-test.true c.requires)
+    omega (arith, c.well_formed, row_fits i c.args.count s (length c.args.octets.now) c.loop-i-test.true c.requires)
 
 pub returns-in-Err : goal.returns-in-Err
 returns-in-Err g c =
@@ -52,7 +52,7 @@ loop-i-preserved g c =
     let f = λ (n : ℕ). result_unwrap_or (cell_at w reads o n) None in
     let v : x ≡ f i = ap (λ r. result_unwrap_or r None) h in (
       sym (faults_pass reads w k j i x o e h) ∙ c.loop-i.invariant.0,
-      c.set-at.ensures
+      c.set_at.ensures
           ∙ ap (λ ys. set ys i x) c.loop-i.invariant.1
           ∙ laid_more (map f (range_with_len 0 i)) c.args.cells.now i x (length-map-range_with_len f 0 i)
           ∙ ap (λ y. laid (map f (range_with_len 0 i) ++ y ∷ []) c.args.cells.now) v

@@ -13,8 +13,8 @@ use Rattle.controller.proofs.PlaceLaws.{laid_front}
 use Rattle.controller.proofs.CloseLaws.{whole_rows, sixteen_suffice, well_formed, strange_cells, fault_there}
 use Rattle.controller.proofs.close.close_given.Goals as goal
 
-pub read-cells-requires : goal.read-cells-requires
-read-cells-requires g c =
+pub read_cells-requires : goal.read_cells-requires
+read_cells-requires g c =
     whole_rows (length c.args.octets.now) c.stride-stride.result g.R.Reading.width c.stride-stride.ensures c.if-octets-stride-ne0.false
 
 pub returns-in-default : goal.returns-in-default
@@ -43,10 +43,10 @@ returns g c =
     let size : c.min.result ≡ min (length (cells_in w reads o k)) 16 = c.min.ensures ∙ ap (λ n. min n 16) (sym long) in
     let answer = λ (a : ItemClose) (cells : List (Option _)).
     unless (strip_refusal (length strip / 2)) (item_answer g.R.Reading.meaning (tosses_in strip) a cells c.args.marks.now) in
-    let cells : take (c.min.result - 0) c.read-cells.new.cells ≡ take 16 (cells_in w reads o k) =
+    let cells : take (c.min.result - 0) c.read_cells.new.cells ≡ take 16 (cells_in w reads o k) =
     ap (take (c.min.result - 0)) c.in-Ok.ensures.after ∙ laid_front (cells_in w reads o k) c.args.cells.now 16 c.min.result c.requires size in
-    c.close-by-octets.ensures
-    ∙ ap (λ (a : ItemClose). answer a (take (c.min.result - 0) c.read-cells.new.cells)) c.asked.ensures
+    c.close_by_octets.ensures
+    ∙ ap (λ (a : ItemClose). answer a (take (c.min.result - 0) c.read_cells.new.cells)) c.asked.ensures
     ∙ ap (λ (cs : List (Option _)). answer (asked c.args.request.now) cs) cells
     ∙ ap (unless (strip_refusal (length strip / 2)))
     (sixteen_suffice g.R.Reading.meaning (tosses_in strip) (asked c.args.request.now) (cells_in w reads o k) c.args.marks.now)

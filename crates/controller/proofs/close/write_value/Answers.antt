@@ -35,6 +35,6 @@ returns g c =
     let h : length (o ++ m) ≤ length p = omega (arith, length-append o m) in
     record {
       answer = enough_room (length (o ++ m)) p tt h;
-      after = put_behind o m p c.write-cell.new.place c.put.new.place s e r c.write-cell.ensures c.put.ensures
+      after = put_behind o m p c.write_cell.new.place c.put.new.place s e r c.write_cell.ensures c.put.ensures
           ∙ enough_placed (o ++ m) p h;
     }

@@ -10,13 +10,13 @@ pub loop-i-preserved : goal.loop-i-preserved
 loop-i-preserved c =
     let i = c.loop-i.i in
     let p = parts_of c.args.message.now in
-    let x = c.bit-octet.result in
+    let x = c.bit_octet.result in
     let l : i < length c.loop-i.items = omega (arith, c.loop-i.auto.items) in
     let h : i < p.count = omega (arith, c.requires.room) in
     let b = bit_there p i c.in-Ok.bit c.in-Ok.ensures c.requires.bits h c.requires.body in
     take_more_set c.loop-i.items i x l
     ∙ ap (λ ys. ys ++ x ∷ []) c.loop-i.invariant
-    ∙ ap (λ y. flags p.rest i ++ y ∷ []) (c.bit-octet.ensures ∙ ap bit_number b)
+    ∙ ap (λ y. flags p.rest i ++ y ∷ []) (c.bit_octet.ensures ∙ ap bit_number b)
     ∙ sym (flags_more p.rest i)
 
 pub returns : goal.returns

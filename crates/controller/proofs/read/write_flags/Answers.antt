@@ -11,6 +11,6 @@ returns-then-items-count c =
     let place = c.args.items.now in
     let h : length place < length (items_octets p) = omega (arith, bits_long p c.requires.bits, c.items-count.ensures.value) in
     record {
-      answer = ap Err c.in-message.ensures ∙ short_items place p tt h;
+      answer = ap Err c.in_message.ensures ∙ short_items place p tt h;
       after = short_placed (length (items_octets p)) (items_octets p) place h;
     }

@@ -11,8 +11,8 @@ returns g c =
     let o = c.args.strip.now in
     let answer = λ (n : ℕ) (es : List ℕ).
     unless (strip_refusal n) (item_answer g.R.Reading.meaning (λ node k i. strip_toss es k i) c.args.close c.args.cells.now c.args.marks.now) in
-    let h : c.read-entries.new.entries ≡ entries_in o = c.read-entries.ensures in
-    let k : c.close-by-entries.result ≡ answer (length c.read-entries.new.entries) c.read-entries.new.entries = c.close-by-entries.ensures in
+    let h : c.read_entries.new.entries ≡ entries_in o = c.read_entries.ensures in
+    let k : c.close_by_entries.result ≡ answer (length c.read_entries.new.entries) c.read_entries.new.entries = c.close_by_entries.ensures in
     k
     ∙ ap (λ (es : List ℕ). answer (length es) es) h
     ∙ ap (λ n. answer n (entries_in o)) (length-map-range_with_len (entry_at o) 0 (length o / 2))

@@ -13,7 +13,7 @@ returns-then-items-i-gt1 c =
     let i = c.loop-i.i in
     let o = c.args.items.now in
     record {
-      answer = ap Err c.in-message.ensures
+      answer = ap Err c.in_message.ensures
           ∙ ap (λ f. unless_fault f tt) (sym (flags_stop o i c.loop-i-test.true c.if-items-i-gt1.true) ∙ c.loop-i.invariant.0);
       after = tt;
     }

@@ -14,21 +14,21 @@ returns c =
     let m = c.args.head.now.items in
     let o = c.args.items.now in
     let place = c.args.place.now in
-    let given = c.read-flags.new.bits in
+    let given = c.read_flags.new.bits in
     let head : Head BitLetter = head_with c.args.letter c.args.head.now in
     let none : flags_fault 0 o ≡ None = (unless_ok (flags_fault 0 o) tt c.in-default.field-0 (sym c.in-default.ensures.answer)).0 in
     let bits : given ≡ flag_bits o = c.in-default.ensures.after in
-    let h : c.head-with.result ≡ head = c.head-with.ensures in
+    let h : c.head_with.result ≡ head = c.head_with.ensures in
     let answer = λ (x : Head BitLetter) (bs : List Bool). write_answer (bits_head x) c.args.n m (length bs) (octets_for m) (length place) in
-    let left = λ (x : Head BitLetter) (bs : List Bool). written c.write-bits.result (bits_message x bs) place in
+    let left = λ (x : Head BitLetter) (bs : List Bool). written c.write_bits.result (bits_message x bs) place in
     record {
       answer =
-          c.write-bits.ensures.answer
+          c.write_bits.ensures.answer
           ∙ ap (λ (x : Head BitLetter). answer x given) h
           ∙ ap (λ (bs : List Bool). answer head bs) bits
           ∙ items_passed (length o) m (flags_fault 0 o) (answer head (flag_bits o)) c.if-items-m.false none;
       after =
-          c.write-bits.ensures.after
+          c.write_bits.ensures.after
           ∙ ap (λ (x : Head BitLetter). left x given) h
           ∙ ap (λ (bs : List Bool). left head bs) bits;
     }

@@ -24,8 +24,8 @@ returns-in-OfCells g c =
     let k : letter_of a.letter ≡ Some (OfCells l) = sym c.in-Some.ensures ∙ ap Some c.in-OfCells.is in
     let p = sym (kind_passed w octets reads n a o place (OfCells l) k c.if-n-eq0.false c.if-n-gt16.false c.if-head-eq0.false c.if-head-gt16.false) in
     let f =
-    finished w octets reads g.met.R.Reading.long g.met.R.Reading.back n a.items place (with_cells (head_with l a) (cells_in w reads o a.items)) c.write-given-cells.result c.write-given-cells.new.place
-    (length o) (a.items * (w + 1)) (cells_fault w reads o 0 a.items) c.write-given-cells.ensures.answer c.write-given-cells.ensures.after in
+    finished w octets reads g.met.R.Reading.long g.met.R.Reading.back n a.items place (with_cells (head_with l a) (cells_in w reads o a.items)) c.write_given_cells.result c.write_given_cells.new.place
+    (length o) (a.items * (w + 1)) (cells_fault w reads o 0 a.items) c.write_given_cells.ensures.answer c.write_given_cells.ensures.after in
     record {
       answer = f.0 ∙ ap (result_map_both (λ (x : List ℕ). length x) (λ (x : Fault). x)) p;
       after = f.1 ∙ ap (λ (q : Result (List ℕ) Fault). after q put_front place) p;
@@ -44,8 +44,8 @@ returns-in-OfBits g c =
     let k : letter_of a.letter ≡ Some (OfBits l) = sym c.in-Some.ensures ∙ ap Some c.in-OfBits.is in
     let p = sym (kind_passed w octets reads n a o place (OfBits l) k c.if-n-eq0.false c.if-n-gt16.false c.if-head-eq0.false c.if-head-gt16.false) in
     let f =
-    finished w octets reads g.met.R.Reading.long g.met.R.Reading.back n a.items place (with_bits (head_with l a) (flag_bits o)) c.write-given-bits.result c.write-given-bits.new.place
-    (length o) a.items (flags_fault 0 o) c.write-given-bits.ensures.answer c.write-given-bits.ensures.after in
+    finished w octets reads g.met.R.Reading.long g.met.R.Reading.back n a.items place (with_bits (head_with l a) (flag_bits o)) c.write_given_bits.result c.write_given_bits.new.place
+    (length o) a.items (flags_fault 0 o) c.write_given_bits.ensures.answer c.write_given_bits.ensures.after in
     record {
       answer = f.0 ∙ ap (result_map_both (λ (x : List ℕ). length x) (λ (x : Fault). x)) p;
       after = f.1 ∙ ap (λ (q : Result (List ℕ) Fault). after q put_front place) p;

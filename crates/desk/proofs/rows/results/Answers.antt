@@ -9,7 +9,7 @@ loop-item-init g c = begun_none c.args.outcome.now.table c.args.values.now c.req
 pub loop-item-preserved : goal.loop-item-preserved
 loop-item-preserved g c =
     begun_more c.args.outcome.now.table c.args.values.now c.requires c.args.node c.loop-item.item c.loop-item.list.items c.push.new.self.items c.in-Ok.decision
-    c.loop-item.invariant c.in-Ok.ensures c.in-ok-push.ensures.items
+    c.loop-item.invariant c.in-Ok.ensures c.in_ok-push.ensures.items
 
 pub returns-in-default : goal.returns-in-default
 returns-in-default g c =
@@ -20,5 +20,5 @@ pub returns : goal.returns
 returns g c =
     begun_all c.args.outcome.now.table c.args.values.now c.requires c.args.node c.loop-item.list.items c.loop-item.item c.loop-item-test.false c.loop-item.invariant
 
-pub returns-in-err-push : goal.returns-in-err-push
-returns-in-err-push g c = IfOk-from_err c.from-residual.result _ c.from-residual.ensures.0
+pub returns-in_err-push : goal.returns-in_err-push
+returns-in_err-push g c = IfOk-from_err c.from_residual.result _ c.from_residual.ensures.0

@@ -16,12 +16,12 @@ returns g c =
     let meaning = g.R.Reading.meaning in
     let tosses = g.C.Coin.tosses c.args.coin.now in
     let f = λ (k : ℕ). value_after meaning tosses t p values sent marks (k / t.m) (k % t.m) in
-    let over : c.write-values.new.scratch ≡ values_over meaning tosses t p values sent marks scratch = search rules in
-    let nodes : c.next-nodes-nodes.result ≡ written t.n (node_after meaning tosses t p values sent marks) t.nodes = search rules in
+    let over : c.write_values.new.scratch ≡ values_over meaning tosses t p values sent marks scratch = search rules in
+    let nodes : c.next_nodes-nodes.result ≡ written t.n (node_after meaning tosses t p values sent marks) t.nodes = search rules in
     record {
       table = table_path _ (table_after meaning tosses t p values sent marks) refl refl nodes;
-      values = copied (cells_needed t) f scratch c.write-values.new.scratch values _ (scratch_of t values scratch sent marks c.requires) over
-          (c.copy-cells.ensures ∙ ap (λ n. written n (λ j. get_or c.write-values.new.scratch j None) values) c.cells-needed-cells.ensures);
+      values = copied (cells_needed t) f scratch c.write_values.new.scratch values _ (scratch_of t values scratch sent marks c.requires) over
+          (c.copy_cells.ensures ∙ ap (λ n. written n (λ j. get_or c.write_values.new.scratch j None) values) c.cells_needed-cells.ensures);
       scratch = over;
       marks = search rules;
     }

@@ -8,7 +8,7 @@ loop-k-preserved g c =
     let answers = c.args.answers.now in
     let k = c.loop-k.k in
     let x = c.index-answers-k.result in
-    c.in-ok-push.ensures.items
-    ∙ ap (λ xs. xs ++ c.answer-number.result ∷ []) c.loop-k.invariant
-    ∙ ap (λ y. map answer_number (take k answers) ++ y ∷ []) (c.answer-number.ensures ∙ ap answer_number c.index-answers-k.is)
+    c.in_ok-push.ensures.items
+    ∙ ap (λ xs. xs ++ c.answer_number.result ∷ []) c.loop-k.invariant
+    ∙ ap (λ y. map answer_number (take k answers) ++ y ∷ []) (c.answer_number.ensures ∙ ap answer_number c.index-answers-k.is)
     ∙ sym (map_more answer_number answers k x (omega (arith, c.loop-k-test.true, c.requires)))

@@ -9,9 +9,9 @@ returns-in-default c = sym (none_came (hex_octets_of 100 c.args.digits.now) c.in
 pub front-requires : goal.front-requires
 front-requires c =
     let few = few_of 100 c.in-Some.count c.args.digits.now c.in-Some.ensures.count in
-    omega (arith, few, c.hex-octets.auto.out)
+    omega (arith, few, c.hex_octets.auto.out)
 
 pub returns : goal.returns
 returns c =
-    ap Some (c.in-ok-from-slice.ensures.items ∙ c.front.ensures)
-    ∙ sym (front_of (hex_octets_of 100 c.args.digits.now) (replicate 100 0) c.hex-octets.new.out c.in-Some.count c.in-Some.ensures.count c.in-Some.ensures.places)
+    ap Some (c.in_ok-from_slice.ensures.items ∙ c.front.ensures)
+    ∙ sym (front_of (hex_octets_of 100 c.args.digits.now) (replicate 100 0) c.hex_octets.new.out c.in-Some.count c.in-Some.ensures.count c.in-Some.ensures.places)

@@ -6,33 +6,33 @@ pub loop-octet-init : goal.loop-octet-init
 loop-octet-init c = (refl, below_none c.args.base)
 
 -- the number after one more digit fits
-fits : (c : goal.In-ok-digit) → c.loop-octet.value * c.args.base + c.in-ok-digit.digit < 2 ^ 64
+fits : (c : goal.In_ok-digit) → c.loop-octet.value * c.args.base + c.in_ok-digit.digit < 2 ^ 64
 fits c =
-    below_fits c.args.base c.args.most c.loop-octet.octet-index c.loop-octet.value c.in-ok-digit.digit
+    below_fits c.args.base c.args.most c.loop-octet.octet-index c.loop-octet.value c.in_ok-digit.digit
     c.requires.based
     c.requires.fits
     (omega arith)
     c.loop-octet.invariant.1
-    c.in-ok-digit.ensures.below
+    c.in_ok-digit.ensures.below
 
-pub overflow-mul-value : goal.overflow-mul-value
-overflow-mul-value c = omega (arith, fits c)
+pub overflow_mul-value : goal.overflow_mul-value
+overflow_mul-value c = omega (arith, fits c)
 
-pub overflow-add-value : goal.overflow-add-value
-overflow-add-value c = omega (arith, fits c)
+pub overflow_add-value : goal.overflow_add-value
+overflow_add-value c = omega (arith, fits c)
 
 pub loop-octet-preserved : goal.loop-octet-preserved
 loop-octet-preserved c = (
-  sym (read_more c.args.base c.loop-octet.value c.args.field.now c.loop-octet.octet-index c.in-ok-digit.digit (omega arith) (sym c.in-ok-digit.ensures.value))
+  sym (read_more c.args.base c.loop-octet.value c.args.field.now c.loop-octet.octet-index c.in_ok-digit.digit (omega arith) (sym c.in_ok-digit.ensures.value))
       ∙ c.loop-octet.invariant.0,
-  below_more c.args.base c.loop-octet.octet-index c.loop-octet.value c.in-ok-digit.digit c.loop-octet.invariant.1 c.in-ok-digit.ensures.below,
+  below_more c.args.base c.loop-octet.octet-index c.loop-octet.value c.in_ok-digit.digit c.loop-octet.invariant.1 c.in_ok-digit.ensures.below,
 )
 
-pub returns-in-err-digit : goal.returns-in-err-digit
-returns-in-err-digit c =
-    let last = read_none c.args.base c.loop-octet.value c.args.field.now c.loop-octet.octet-index (omega arith) (sym c.in-err-digit.ensures.value) in
+pub returns-in_err-digit : goal.returns-in_err-digit
+returns-in_err-digit c =
+    let last = read_none c.args.base c.loop-octet.value c.args.field.now c.loop-octet.octet-index (omega arith) (sym c.in_err-digit.ensures.value) in
     let whole = numeral_fits c.args.base c.args.least c.args.most c.args.field.now (omega arith) (omega arith) in
-    rw c.from-residual.ensures record { value = sym (whole ∙ sym c.loop-octet.invariant.0 ∙ last); below = tt }
+    rw c.from_residual.ensures record { value = sym (whole ∙ sym c.loop-octet.invariant.0 ∙ last); below = tt }
 
 pub returns : goal.returns
 returns c =

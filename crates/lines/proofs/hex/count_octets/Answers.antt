@@ -8,7 +8,7 @@ loop-rest-init c = (count_none c.args.field.now, omega arith)
 pub loop-rest-preserved : goal.loop-rest-preserved
 loop-rest-preserved c =
     let two : 2 ≤ length c.loop-rest.rest.now = search rules in (
-      sym (count_more c.loop-rest.count c.in-ok-octet.field-0 c.loop-rest.rest.now two (sym c.in-ok-octet.ensures))
+      sym (count_more c.loop-rest.count c.in_ok-octet.field-0 c.loop-rest.rest.now two (sym c.in_ok-octet.ensures))
           ∙ c.loop-rest.invariant.0,
       pairs_more c.loop-rest.count (length c.args.field.now) c.loop-rest.rest.now two c.loop-rest.invariant.1,
     )

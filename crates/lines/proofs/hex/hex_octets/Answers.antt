@@ -5,8 +5,8 @@ use Rattle.lines.proofs.Pairs.{no_octets}
 
 pub returns-then-count-eq0 : goal.returns-then-count-eq0
 returns-then-count-eq0 c =
-    let which : (c.in-ok-count.count ≡ 0) ⊎ (length c.args.out.now < c.in-ok-count.count) =
+    let which : (c.in_ok-count.count ≡ 0) ⊎ (length c.args.out.now < c.in_ok-count.count) =
     ⊎_elim inl (λ p. inr (omega (arith, p.1))) c.then-count-eq0.either in
     let none : hex_octets_of (length c.args.out.now) c.args.field.now ≡ None =
-    no_octets c.args.field.now c.in-ok-count.count (length c.args.out.now) c.in-ok-count.ensures.count which in
+    no_octets c.args.field.now c.in_ok-count.count (length c.args.out.now) c.in_ok-count.ensures.count which in
     rw none record { count = refl; places = refl }

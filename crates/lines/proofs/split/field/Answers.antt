@@ -5,10 +5,10 @@ use Rattle.lines.proofs.Walking.{nth_left, nth_none}
 use Rattle.lines.proofs.split.field.Goals as goal
 
 pub loop-k-preserved : goal.loop-k-preserved
-loop-k-preserved c = c.next.ensures.left ∙ ap (drop 1) c.loop-k.invariant ∙ drop-drop 1 c.loop-k.-k (fields c.args.part c.args.line.now)
+loop-k-preserved c = c.next.ensures.left ∙ ap (drop 1) c.loop-k.invariant ∙ drop-drop 1 c.loop-k._k (fields c.args.part c.args.line.now)
 
-pub returns-in-err-next : goal.returns-in-err-next
-returns-in-err-next c = search (rules, nth_none)
+pub returns-in_err-next : goal.returns-in_err-next
+returns-in_err-next c = search (rules, nth_none)
 
 pub returns : goal.returns
 returns c = search (rules, nth_left)

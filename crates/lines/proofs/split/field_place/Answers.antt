@@ -6,7 +6,7 @@ use Rattle.lines.proofs.split.field_place.Goals as goal
 
 pub loop-k-preserved : goal.loop-k-preserved
 loop-k-preserved c = (
-  sym (place_step c.args.part c.args.line.now c.loop-k.start c.field-end-end.result c.loop-k.-k c.args.index (omega arith) (omega arith) (omega arith) c.field-end-end.ensures.parts)
+  sym (place_step c.args.part c.args.line.now c.loop-k.start c.field_end-end.result c.loop-k._k c.args.index (omega arith) (omega arith) (omega arith) c.field_end-end.ensures.parts)
       ∙ c.loop-k.invariant.0,
   omega arith,
 )
@@ -14,5 +14,5 @@ loop-k-preserved c = (
 pub returns : goal.returns
 returns c =
     let left = fields c.args.part (drop c.loop-k.start c.args.line.now) in
-    sym (place_all c.loop-k.start c.loop-k.-k c.args.index left (omega arith) (some_field c.args.part (drop c.loop-k.start c.args.line.now)))
+    sym (place_all c.loop-k.start c.loop-k._k c.args.index left (omega arith) (some_field c.args.part (drop c.loop-k.start c.args.line.now)))
     ∙ c.loop-k.invariant.0

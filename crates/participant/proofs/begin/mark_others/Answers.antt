@@ -17,6 +17,6 @@ pub loop-other-preserved : goal.loop-other-preserved
 loop-other-preserved g c =
     let p₀ : Prepared g.row.R.Denot = record { table = c.args.setup.now.table; values = c.args.values.now } in
     let k = c.loop-other.other in
-    one_more p₀ (record { table = c.loop-other.setup.table; values = c.loop-other.values }) (record { table = c.apply-setup.new.setup.table; values = c.apply-setup.new.values })
-    (faulty_moves k c.args.node) (MarkFaulty k) c.apply-setup.result (omega (arith, c.loop-other.auto.values, c.requires)) c.loop-other.invariant c.apply-setup.ensures
+    one_more p₀ (record { table = c.loop-other.setup.table; values = c.loop-other.values }) (record { table = c.apply_setup.new.setup.table; values = c.apply_setup.new.values })
+    (faulty_moves k c.args.node) (MarkFaulty k) c.apply_setup.result (omega (arith, c.loop-other.auto.values, c.requires)) c.loop-other.invariant c.apply_setup.ensures
     ∙ ap (setup_run p₀) (sym (other_node k c.args.node c.if-other-node.false))

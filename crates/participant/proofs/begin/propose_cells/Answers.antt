@@ -19,7 +19,7 @@ loop-item-preserved g c =
     let cells = c.args.cells.now in
     let x = c.index-cells-item.result in
     let f : ℕ → SetupMove g.row.R.Denot = λ j. setup_move (Propose i j (get_or cells j None)) in
-    one_more p₀ (record { table = c.loop-item.setup.table; values = c.loop-item.values }) (record { table = c.apply-setup.new.setup.table; values = c.apply-setup.new.values })
-    (map f (range_with_len 0 k)) (Propose i k x) c.apply-setup.result (omega (arith, c.loop-item.auto.values, c.requires)) c.loop-item.invariant c.apply-setup.ensures
+    one_more p₀ (record { table = c.loop-item.setup.table; values = c.loop-item.values }) (record { table = c.apply_setup.new.setup.table; values = c.apply_setup.new.values })
+    (map f (range_with_len 0 k)) (Propose i k x) c.apply_setup.result (omega (arith, c.loop-item.auto.values, c.requires)) c.loop-item.invariant c.apply_setup.ensures
     ∙ ap (λ y. setup_run p₀ (map f (range_with_len 0 k) ++ setup_move (Propose i k y) ∷ [])) (c.index-cells-item.is ∙ get_or_default cells k x None c.loop-item-test.true)
     ∙ ap (setup_run p₀) (sym (map-range_with_len_more f 0 k k (omega arith)))

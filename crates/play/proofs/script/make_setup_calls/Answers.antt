@@ -8,8 +8,8 @@ loop-k-init g c = setup_none (record { table = c.args.setup.now.table; values = 
 pub loop-k-preserved : goal.loop-k-preserved
 loop-k-preserved g c =
     setup_step (record { table = c.args.setup.now.table; values = c.args.values.now }) (record { table = c.loop-k.setup.table; values = c.loop-k.values })
-    (record { table = c.apply-setup-answer.new.setup.table; values = c.apply-setup-answer.new.values }) c.args.calls.now c.loop-k.k c.args.answers.now c.loop-k.answers _
-    c.apply-setup-answer.result c.index-calls-k.result c.loop-k-test.true c.requires c.loop-k.auto.values c.index-calls-k.is c.apply-setup-answer.ensures c.put.ensures c.loop-k.invariant
+    (record { table = c.apply_setup-answer.new.setup.table; values = c.apply_setup-answer.new.values }) c.args.calls.now c.loop-k.k c.args.answers.now c.loop-k.answers _
+    c.apply_setup-answer.result c.index-calls-k.result c.loop-k-test.true c.requires c.loop-k.auto.values c.index-calls-k.is c.apply_setup-answer.ensures c.put.ensures c.loop-k.invariant
 
 pub returns : goal.returns
 returns g c =

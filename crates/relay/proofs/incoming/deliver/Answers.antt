@@ -26,8 +26,8 @@ returns-then-answers-count g c =
       delivers = delivers_nothing g.R.Reading.meaning calls old s c.args.sent.now c.args.marks.now o Short z;
     }
 
-pub returns-then-has-strange : goal.returns-then-has-strange
-returns-then-has-strange g c =
+pub returns-then-has_strange : goal.returns-then-has_strange
+returns-then-has_strange g c =
     let w = g.R.Reading.width in
     let reads = g.R.Reading.reads in
     let p = parts_of c.args.message.now in
@@ -38,7 +38,7 @@ returns-then-has-strange g c =
     let o = deliver_refusal w reads j p s (length old) in
     let long = length_calls w reads j p p.front.letter in
     let room : length calls ≤ length old = omega arith in
-    let told : some_item (is_strange w reads p p.front.letter) p.count ≡ true = sym c.if-has-strange.ensures in
+    let told : some_item (is_strange w reads p p.front.letter) p.count ≡ true = sym c.if-has_strange.ensures in
     let z : o ≡ Some StrangeReading = refused_strange w reads j p s (length old) room told in
     record {
       answer = sym (ap (λ x. answered x (length calls)) z);
@@ -57,7 +57,7 @@ returns-then-step g c =
     let o = deliver_refusal w reads j p s (length old) in
     let long = length_calls w reads j p p.front.letter in
     let room : length calls ≤ length old = omega arith in
-    let told : some_item (is_strange w reads p p.front.letter) p.count ≡ false = sym c.if-has-strange.ensures in
+    let told : some_item (is_strange w reads p p.front.letter) p.count ≡ false = sym c.if-has_strange.ensures in
     let other : (p.front.step ≡ step_number s → ⊥) = λ e. c.if-step.true (c.step.ensures ∙ e ∙ sym c.step-2.ensures) in
     let z : o ≡ Some OutOfTurn = refused_turn w reads j p s (length old) room told other in
     record {
@@ -77,12 +77,12 @@ returns g c =
     let o = deliver_refusal w reads j p s (length old) in
     let long = length_calls w reads j p p.front.letter in
     let room : length calls ≤ length old = omega arith in
-    let told : some_item (is_strange w reads p p.front.letter) p.count ≡ false = sym c.if-has-strange.ensures in
+    let told : some_item (is_strange w reads p p.front.letter) p.count ≡ false = sym c.if-has_strange.ensures in
     let turn : p.front.step ≡ step_number s = sym c.step.ensures ∙ c.if-step.false ∙ c.step-2.ensures in
     let z : o ≡ None = refused_not w reads j p s (length old) room told turn in
-    let count : c.count-calls-count.result ≡ length calls = c.count-calls-count.ensures ∙ sym long in
+    let count : c.count_calls-count.result ≡ length calls = c.count_calls-count.ensures ∙ sym long in
     record {
       answer = ap (λ k. Ok k) count ∙ sym (ap (λ x. answered x (length calls)) z);
       delivers = delivers_all g.R.Reading.meaning calls old s c.args.sent.now c.args.marks.now
-          c.send-all.new.instance c.send-all.new.sent c.send-all.new.marks c.send-all.new.answers o z c.send-all.ensures;
+          c.send_all.new.instance c.send_all.new.sent c.send_all.new.marks c.send_all.new.answers o z c.send_all.ensures;
     }

@@ -11,8 +11,8 @@ loop-place-init g c =
     sent_none g.R.Reading.meaning (calls_of g.R.Reading.width g.R.Reading.reads c.args.receiver (parts_of c.args.message.now)) c.args.answers.now
     c.args.instance.now c.args.sent.now c.args.marks.now
 
-pub send-part-answer-requires : goal.send-part-answer-requires
-send-part-answer-requires g c κs = λ h.
+pub send_part-answer-requires : goal.send_part-answer-requires
+send_part-answer-requires g c κs = λ h.
     let p = parts_of c.args.message.now in
     none_of_all (is_strange g.R.Reading.width g.R.Reading.reads p p.front.letter) p.count c.loop-place.place c.requires.told h
 
@@ -26,10 +26,10 @@ loop-place-preserved g c =
     let l : c.loop-place.place < length (calls_of w reads j p) = omega arith in
     let room : length (calls_of w reads j p) ≤ length c.args.answers.now = omega arith in
     sent_more g.R.Reading.meaning (calls_of w reads j p) c.args.answers.now
-    c.args.instance.now c.args.sent.now c.args.marks.now c.loop-place.instance c.send-part-answer.new.instance
-    c.loop-place.sent c.send-part-answer.new.sent c.loop-place.marks c.send-part-answer.new.marks
-    c.loop-place.place c.loop-place.answers c.put.new.list c.send-part-answer.result (SendFinal p.front.node j)
-    l room c.loop-place.auto.sent c.loop-place.auto.marks c.send-part-answer.ensures c.put.ensures c.loop-place.invariant
+    c.args.instance.now c.args.sent.now c.args.marks.now c.loop-place.instance c.send_part-answer.new.instance
+    c.loop-place.sent c.send_part-answer.new.sent c.loop-place.marks c.send_part-answer.new.marks
+    c.loop-place.place c.loop-place.answers c.put.new.list c.send_part-answer.result (SendFinal p.front.node j)
+    l room c.loop-place.auto.sent c.loop-place.auto.marks c.send_part-answer.ensures c.put.ensures c.loop-place.invariant
 
 pub returns : goal.returns
 returns g c =

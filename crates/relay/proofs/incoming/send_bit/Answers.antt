@@ -14,9 +14,9 @@ returns g c = λ f values scratch.
     let j = c.args.receiver in
     let k = c.args.item in
     let o = bit_refusal s marks i j k c.args.bit in
-    let e = c.send-bit.ensures in
+    let e = c.send_bit.ensures in
     record {
-      answer = send_answer o c.send-bit.result c.done.result e.answer c.done.ensures;
-      world = send_world o s c.send-bit.new.self s values sent sent sent marks c.send-bit.new.marks (sent_after s.table marks i j k (mark_of (eqb c.args.bit 1)))
-          (kept o s c.send-bit.new.self e.state) (kept o sent sent refl) e.marks;
+      answer = send_answer o c.send_bit.result c.done.result e.answer c.done.ensures;
+      world = send_world o s c.send_bit.new.self s values sent sent sent marks c.send_bit.new.marks (sent_after s.table marks i j k (mark_of (eqb c.args.bit 1)))
+          (kept o s c.send_bit.new.self e.state) (kept o sent sent refl) e.marks;
     }

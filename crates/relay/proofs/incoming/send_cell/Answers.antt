@@ -12,10 +12,10 @@ returns g c = λ f values scratch.
     let j = c.args.receiver in
     let k = c.args.item in
     let o = value_refusal s sent marks i j k in
-    let e = c.send-value.ensures in
+    let e = c.send_value.ensures in
     record {
-      answer = send_answer o c.send-value.result c.done.result e.answer c.done.ensures;
-      world = send_world o s c.send-value.new.self s values sent c.send-value.new.sent (sent_after s.table sent i j k c.args.cell)
-          marks c.send-value.new.marks (sent_after s.table marks i j k 1)
-          (kept o s c.send-value.new.self e.state) e.sent e.marks;
+      answer = send_answer o c.send_value.result c.done.result e.answer c.done.ensures;
+      world = send_world o s c.send_value.new.self s values sent c.send_value.new.sent (sent_after s.table sent i j k c.args.cell)
+          marks c.send_value.new.marks (sent_after s.table marks i j k 1)
+          (kept o s c.send_value.new.self e.state) e.sent e.marks;
     }

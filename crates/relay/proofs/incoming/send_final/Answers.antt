@@ -11,8 +11,8 @@ returns g c = λ f values scratch.
     let i = c.args.sender in
     let j = c.args.receiver in
     let o = send_final_refusal s i j in
-    let e = c.send-final.ensures in
+    let e = c.send_final.ensures in
     record {
-      answer = send_answer o c.send-final.result c.done.result e.answer c.done.ensures;
-      world = send_world o s c.send-final.new.self (final_after s i j) values sent sent sent marks marks marks e.state (kept o sent sent refl) (kept o marks marks refl);
+      answer = send_answer o c.send_final.result c.done.result e.answer c.done.ensures;
+      world = send_world o s c.send_final.new.self (final_after s i j) values sent sent sent marks marks marks e.state (kept o sent sent refl) (kept o marks marks refl);
     }

@@ -15,10 +15,10 @@ returns-then-place-items g c =
     let j = c.args.receiver in
     let k = c.args.place in
     let h : p.count ≤ k = omega arith in
-    sent_as g.R.Reading.meaning c.args.instance.now c.send-final.new.instance c.args.sent.now c.send-final.new.sent c.args.marks.now c.send-final.new.marks
-    (SendFinal c.node-sender.result j) (get_or (message_calls j (said w reads p p.front.letter)) k (SendFinal p.front.node j)) c.send-final.result
+    sent_as g.R.Reading.meaning c.args.instance.now c.send_final.new.instance c.args.sent.now c.send_final.new.sent c.args.marks.now c.send_final.new.marks
+    (SendFinal c.node-sender.result j) (get_or (message_calls j (said w reads p p.front.letter)) k (SendFinal p.front.node j)) c.send_final.result
     (ap (λ i. SendFinal i j) c.node-sender.ensures ∙ sym (call_behind w reads j p p.front.letter k h))
-    c.send-final.ensures
+    c.send_final.ensures
 
 pub returns-in-Ok : goal.returns-in-Ok
 returns-in-Ok g c =
@@ -31,11 +31,11 @@ returns-in-Ok g c =
     let l = c.in-OfCells.field-0 in
     let h : k < p.count = omega arith in
     let d = SendFinal p.front.node j in
-    sent_as g.R.Reading.meaning c.args.instance.now c.send-cell.new.instance c.args.sent.now c.send-cell.new.sent c.args.marks.now c.send-cell.new.marks
-    (SendValue c.node-sender.result j k x) (get_or (message_calls j (said w reads p p.front.letter)) k d) c.send-cell.result
+    sent_as g.R.Reading.meaning c.args.instance.now c.send_cell.new.instance c.args.sent.now c.send_cell.new.sent c.args.marks.now c.send_cell.new.marks
+    (SendValue c.node-sender.result j k x) (get_or (message_calls j (said w reads p p.front.letter)) k d) c.send_cell.result
     (ap (λ i. SendValue i j k x) c.node-sender.ensures ∙ sym (call_of_cell w reads j p l k x d h c.in-Ok.ensures)
     ∙ ap (λ u. get_or (message_calls j (said w reads p u)) k d) c.in-OfCells.ensures)
-    c.send-cell.ensures
+    c.send_cell.ensures
 
 pub returns-in-Ok-bit : goal.returns-in-Ok-bit
 returns-in-Ok-bit g c =
@@ -48,8 +48,8 @@ returns-in-Ok-bit g c =
     let l = c.in-OfBits.field-0 in
     let h : k < p.count = omega arith in
     let d = SendFinal p.front.node j in
-    sent_as g.R.Reading.meaning c.args.instance.now c.send-bit.new.instance c.args.sent.now c.send-bit.new.sent c.args.marks.now c.send-bit.new.marks
-    (SendBit c.node-sender.result j k (bool_byte b)) (get_or (message_calls j (said w reads p p.front.letter)) k d) c.send-bit.result
+    sent_as g.R.Reading.meaning c.args.instance.now c.send_bit.new.instance c.args.sent.now c.send_bit.new.sent c.args.marks.now c.send_bit.new.marks
+    (SendBit c.node-sender.result j k (bool_byte b)) (get_or (message_calls j (said w reads p p.front.letter)) k d) c.send_bit.result
     (ap (λ i. SendBit i j k (bool_byte b)) c.node-sender.ensures ∙ ap (λ y. SendBit p.front.node j k y) (bit_octet b)
     ∙ sym (call_of_bit w reads j p l k b d h c.in-Ok-bit.ensures) ∙ ap (λ u. get_or (message_calls j (said w reads p u)) k d) c.in-OfBits.ensures)
-    c.send-bit.ensures
+    c.send_bit.ensures

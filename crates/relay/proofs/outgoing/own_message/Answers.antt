@@ -11,8 +11,8 @@ use Rattle.relay.specs.Own.{own_octets, own_refusal}
 use Rattle.relay.proofs.Own.{own_size, node_passed, short_place, no_node, over_low, over_high, none_hits, own_written}
 use Rattle.relay.proofs.outgoing.own_message.Goals as goal
 
-pub returns-then-place-message-length : goal.returns-then-place-message-length
-returns-then-place-message-length g c =
+pub returns-then-place-message_length : goal.returns-then-place-message_length
+returns-then-place-message_length g c =
     let w = g.R.Reading.width in
     let octets = g.R.Reading.octets in
     let s = c.args.instance.now in
@@ -20,8 +20,8 @@ returns-then-place-message-length g c =
     let i = c.args.node in
     let place = c.args.place.now in
     let k = length (own_octets w octets s values i) in
-    let size : c.message-length.result ≡ k = own_size w octets g.met.R.Reading.long s values i c.items-m.result c.step-step.result c.message-length.result c.own-letter-letter.result
-    c.items-m.ensures c.step-step.ensures c.own-letter-letter.ensures c.message-length.ensures in
+    let size : c.message_length.result ≡ k = own_size w octets g.met.R.Reading.long s values i c.items-m.result c.step-step.result c.message_length.result c.own_letter-letter.result
+    c.items-m.ensures c.step-step.ensures c.own_letter-letter.ensures c.message_length.ensures in
     let needed : c.nodes-n.result * c.items-m.result ≡ cells_needed s.table = ap₂ ◌*◌ c.nodes-n.ensures c.items-m.ensures in
     let board : cells_needed s.table ≤ length values = omega arith in
     let h : length place < k = omega arith in
@@ -31,8 +31,8 @@ returns-then-place-message-length g c =
       place = when_refused (own_refusal w octets s values i place) Short _ _ _ z refl;
     }
 
-pub returns-in-err-bits : goal.returns-in-err-bits
-returns-in-err-bits g c =
+pub returns-in_err-bits : goal.returns-in_err-bits
+returns-in_err-bits g c =
     let w = g.R.Reading.width in
     let octets = g.R.Reading.octets in
     let s = c.args.instance.now in
@@ -40,14 +40,14 @@ returns-in-err-bits g c =
     let i = c.args.node in
     let place = c.args.place.now in
     let k = length (own_octets w octets s values i) in
-    let size : c.message-length.result ≡ k = own_size w octets g.met.R.Reading.long s values i c.items-m.result c.step-step.result c.message-length.result c.own-letter-letter.result
-    c.items-m.ensures c.step-step.ensures c.own-letter-letter.ensures c.message-length.ensures in
+    let size : c.message_length.result ≡ k = own_size w octets g.met.R.Reading.long s values i c.items-m.result c.step-step.result c.message_length.result c.own_letter-letter.result
+    c.items-m.ensures c.step-step.ensures c.own_letter-letter.ensures c.message_length.ensures in
     let needed : c.nodes-n.result * c.items-m.result ≡ cells_needed s.table = ap₂ ◌*◌ c.nodes-n.ensures c.items-m.ensures in
     let board : cells_needed s.table ≤ length values = omega arith in
     let room : k ≤ length place = omega arith in
-    let e = c.in-err-bits.field-0.0 in
-    let z = no_node w octets s values i place board room (node_at s.table i).bits e c.in-err-bits.ensures in
-    let r : c.from-residual.result ≡ Err e = search rules in
+    let e = c.in_err-bits.field-0.0 in
+    let z = no_node w octets s values i place board room (node_at s.table i).bits e c.in_err-bits.ensures in
+    let r : c.from_residual.result ≡ Err e = search rules in
     record {
       answer = r ∙ sym (ap (λ x. answered x k) z);
       place = when_refused (own_refusal w octets s values i place) e _ _ _ z refl;
@@ -62,12 +62,12 @@ returns-then-step-lt1 g c =
     let i = c.args.node in
     let place = c.args.place.now in
     let k = length (own_octets w octets s values i) in
-    let size : c.message-length.result ≡ k = own_size w octets g.met.R.Reading.long s values i c.items-m.result c.step-step.result c.message-length.result c.own-letter-letter.result
-    c.items-m.ensures c.step-step.ensures c.own-letter-letter.ensures c.message-length.ensures in
+    let size : c.message_length.result ≡ k = own_size w octets g.met.R.Reading.long s values i c.items-m.result c.step-step.result c.message_length.result c.own_letter-letter.result
+    c.items-m.ensures c.step-step.ensures c.own_letter-letter.ensures c.message_length.ensures in
     let needed : c.nodes-n.result * c.items-m.result ≡ cells_needed s.table = ap₂ ◌*◌ c.nodes-n.ensures c.items-m.ensures in
     let board : cells_needed s.table ≤ length values = omega arith in
     let room : k ≤ length place = omega arith in
-    let at = node_passed (leb s.table.n i) (faulty_at s.table i) (node_at s.table i).bits c.in-ok-bits.bits c.in-ok-bits.ensures in
+    let at = node_passed (leb s.table.n i) (faulty_at s.table i) (node_at s.table i).bits c.in_ok-bits.bits c.in_ok-bits.ensures in
     let ways : (step_number s < 1) ⊎ (302 < step_number s) = elim c.then-step-lt1.either [ inl a ↦ inl (omega arith) | inr b ↦ inr (omega (arith, b.1)) ] in
     let z : own_refusal w octets s values i place ≡ Some Over = elim ways [
       | inl a ↦ over_low w octets s values i place board room at.0 at.1 a
@@ -82,7 +82,7 @@ pub part-cells-requires : goal.part-cells-requires
 part-cells-requires g c =
     let s = c.args.instance.now in
     let i = c.args.node in
-    let at = node_passed (leb s.table.n i) (faulty_at s.table i) (node_at s.table i).bits c.in-ok-bits.bits c.in-ok-bits.ensures in
+    let at = node_passed (leb s.table.n i) (faulty_at s.table i) (node_at s.table i).bits c.in_ok-bits.bits c.in_ok-bits.ensures in
     let h : i < s.table.n = leb-false s.table.n i at.0 in
     let h' : i < c.nodes-n.result = omega arith in
     let fits : i * c.items-m.result + c.items-m.result ≤ c.nodes-n.result * c.items-m.result = row_fits i c.nodes-n.result c.items-m.result (c.nodes-n.result * c.items-m.result) h' refl in
@@ -97,23 +97,23 @@ returns-in-Ok g c =
     let i = c.args.node in
     let place = c.args.place.now in
     let k = length (own_octets w octets s values i) in
-    let size : c.message-length.result ≡ k = own_size w octets g.met.R.Reading.long s values i c.items-m.result c.step-step.result c.message-length.result c.own-letter-letter.result
-    c.items-m.ensures c.step-step.ensures c.own-letter-letter.ensures c.message-length.ensures in
+    let size : c.message_length.result ≡ k = own_size w octets g.met.R.Reading.long s values i c.items-m.result c.step-step.result c.message_length.result c.own_letter-letter.result
+    c.items-m.ensures c.step-step.ensures c.own_letter-letter.ensures c.message_length.ensures in
     let needed : c.nodes-n.result * c.items-m.result ≡ cells_needed s.table = ap₂ ◌*◌ c.nodes-n.ensures c.items-m.ensures in
     let board : cells_needed s.table ≤ length values = omega arith in
     let room : k ≤ length place = omega arith in
-    let at = node_passed (leb s.table.n i) (faulty_at s.table i) (node_at s.table i).bits c.in-ok-bits.bits c.in-ok-bits.ensures in
+    let at = node_passed (leb s.table.n i) (faulty_at s.table i) (node_at s.table i).bits c.in_ok-bits.bits c.in_ok-bits.ensures in
     let h : i < s.table.n = leb-false s.table.n i at.0 in
     let h' : i < c.nodes-n.result = omega arith in
     let fits : i * c.items-m.result + c.items-m.result ≤ c.nodes-n.result * c.items-m.result = row_fits i c.nodes-n.result c.items-m.result (c.nodes-n.result * c.items-m.result) h' refl in
     let fits' : i * c.items-m.result + c.items-m.result ≤ length values = omega arith in
-    let few : c.items-m.result ≤ length c.in-ok-bits.bits = search rules in
-    let room' : 5 + body_length w c.own-letter-letter.result c.items-m.result ≤ length place = omega arith in
+    let few : c.items-m.result ≤ length c.in_ok-bits.bits = search rules in
+    let room' : 5 + body_length w c.own_letter-letter.result c.items-m.result ≤ length place = omega arith in
     let low : 1 ≤ c.step-step.result = omega arith in
     let high : c.step-step.result ≤ 302 = omega arith in
-    let done = own_written s values i w octets g.met.R.Reading.long c.nodes-n.result c.items-m.result c.step-step.result c.own-letter-letter.result
-    c.part-cells.result.now c.part.result.now c.in-ok-bits.bits place c.write-own.new.place (Ok c.in-Ok.length)
-    c.nodes-n.ensures c.items-m.ensures c.step-step.ensures c.own-letter-letter.ensures c.part-cells.ensures c.part.ensures at.2
+    let done = own_written s values i w octets g.met.R.Reading.long c.nodes-n.result c.items-m.result c.step-step.result c.own_letter-letter.result
+    c.part-cells.result.now c.part.result.now c.in_ok-bits.bits place c.write_own.new.place (Ok c.in-Ok.length)
+    c.nodes-n.ensures c.items-m.ensures c.step-step.ensures c.own_letter-letter.ensures c.part-cells.ensures c.part.ensures at.2
     fits' few room' h' low high c.in-Ok.ensures.answer c.in-Ok.ensures.after in
     let z : own_refusal w octets s values i place ≡ None = none_hits w octets s values i place board room at.0 at.1 (omega arith) (omega arith) in
     let same : c.in-Ok.length ≡ k = cc done.answer in
@@ -131,23 +131,23 @@ returns-in-Err g c =
     let i = c.args.node in
     let place = c.args.place.now in
     let k = length (own_octets w octets s values i) in
-    let size : c.message-length.result ≡ k = own_size w octets g.met.R.Reading.long s values i c.items-m.result c.step-step.result c.message-length.result c.own-letter-letter.result
-    c.items-m.ensures c.step-step.ensures c.own-letter-letter.ensures c.message-length.ensures in
+    let size : c.message_length.result ≡ k = own_size w octets g.met.R.Reading.long s values i c.items-m.result c.step-step.result c.message_length.result c.own_letter-letter.result
+    c.items-m.ensures c.step-step.ensures c.own_letter-letter.ensures c.message_length.ensures in
     let needed : c.nodes-n.result * c.items-m.result ≡ cells_needed s.table = ap₂ ◌*◌ c.nodes-n.ensures c.items-m.ensures in
     let board : cells_needed s.table ≤ length values = omega arith in
     let room : k ≤ length place = omega arith in
-    let at = node_passed (leb s.table.n i) (faulty_at s.table i) (node_at s.table i).bits c.in-ok-bits.bits c.in-ok-bits.ensures in
+    let at = node_passed (leb s.table.n i) (faulty_at s.table i) (node_at s.table i).bits c.in_ok-bits.bits c.in_ok-bits.ensures in
     let h : i < s.table.n = leb-false s.table.n i at.0 in
     let h' : i < c.nodes-n.result = omega arith in
     let fits : i * c.items-m.result + c.items-m.result ≤ c.nodes-n.result * c.items-m.result = row_fits i c.nodes-n.result c.items-m.result (c.nodes-n.result * c.items-m.result) h' refl in
     let fits' : i * c.items-m.result + c.items-m.result ≤ length values = omega arith in
-    let few : c.items-m.result ≤ length c.in-ok-bits.bits = search rules in
-    let room' : 5 + body_length w c.own-letter-letter.result c.items-m.result ≤ length place = omega arith in
+    let few : c.items-m.result ≤ length c.in_ok-bits.bits = search rules in
+    let room' : 5 + body_length w c.own_letter-letter.result c.items-m.result ≤ length place = omega arith in
     let low : 1 ≤ c.step-step.result = omega arith in
     let high : c.step-step.result ≤ 302 = omega arith in
-    let done = own_written s values i w octets g.met.R.Reading.long c.nodes-n.result c.items-m.result c.step-step.result c.own-letter-letter.result
-    c.part-cells.result.now c.part.result.now c.in-ok-bits.bits place c.write-own.new.place (Err c.in-Err.fault)
-    c.nodes-n.ensures c.items-m.ensures c.step-step.ensures c.own-letter-letter.ensures c.part-cells.ensures c.part.ensures at.2
+    let done = own_written s values i w octets g.met.R.Reading.long c.nodes-n.result c.items-m.result c.step-step.result c.own_letter-letter.result
+    c.part-cells.result.now c.part.result.now c.in_ok-bits.bits place c.write_own.new.place (Err c.in-Err.fault)
+    c.nodes-n.ensures c.items-m.ensures c.step-step.ensures c.own_letter-letter.ensures c.part-cells.ensures c.part.ensures at.2
     fits' few room' h' low high c.in-Err.ensures.answer c.in-Err.ensures.after in
     let z : ◌≡◌ {A = ℕ} 0 1 = cc done.answer in
     absurd (omega arith)

@@ -9,15 +9,15 @@ returns g c =
     let node : List ℕ = digits c.args.node in
     let item : List ℕ = digits c.args.item in
     let result : List ℕ = result_text g.R.Spelled.spelled c.args.decision.now in
-    let t1 : List ℕ = vec_items c.write-number.new.text in
-    let t2 : List ℕ = vec_items c.write-next-number.new.text in
-    let t3 : List ℕ = vec_items c.write-next-number-2.new.text in
-    let t4 : List ℕ = vec_items c.write-next-result.new.text in
-    wrote_line c.extend-from-slice.result (vec_items c.args.text.now) t1 t4 (vec_items c.extend-from-slice.new.self) (digits c.args.line) (node ∷ item ∷ result ∷ [])
-    c.in-ok-write-number.ensures
+    let t1 : List ℕ = vec_items c.write_number.new.text in
+    let t2 : List ℕ = vec_items c.write_next_number.new.text in
+    let t3 : List ℕ = vec_items c.write_next_number-2.new.text in
+    let t4 : List ℕ = vec_items c.write_next_result.new.text in
+    wrote_line c.extend_from_slice.result (vec_items c.args.text.now) t1 t4 (vec_items c.extend_from_slice.new.self) (digits c.args.line) (node ∷ item ∷ result ∷ [])
+    c.in_ok-write_number.ensures
     (spaced_push t1 t3 t4 result (node ∷ item ∷ [])
     (spaced_push t1 t2 t3 item (node ∷ [])
-    (spaced_one t1 t2 node c.in-ok-write-next-number.ensures)
-    c.in-ok-write-next-number-2.ensures)
-    c.in-ok-write-next-result.ensures)
-    c.extend-from-slice.ensures.items
+    (spaced_one t1 t2 node c.in_ok-write_next_number.ensures)
+    c.in_ok-write_next_number-2.ensures)
+    c.in_ok-write_next_result.ensures)
+    c.extend_from_slice.ensures.items

@@ -4,4 +4,4 @@ use Rattle.spelling.proofs.answers.write_next_number.Goals as goal
 
 pub returns : goal.returns
 returns c =
-    wrote_behind c.write-number.result _ _ _ _ _ _ c.in-ok-extend-from-slice.ensures.items c.write-number.ensures refl
+    wrote_behind c.write_number.result _ _ _ _ _ _ c.in_ok-extend_from_slice.ensures.items c.write_number.ensures refl

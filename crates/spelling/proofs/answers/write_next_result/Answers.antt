@@ -4,4 +4,4 @@ use Rattle.spelling.proofs.answers.write_next_result.Goals as goal
 
 pub returns : goal.returns
 returns g c =
-    wrote_behind c.write-result.result _ _ _ _ _ _ c.in-ok-extend-from-slice.ensures.items c.write-result.ensures refl
+    wrote_behind c.write_result.result _ _ _ _ _ _ c.in_ok-extend_from_slice.ensures.items c.write_result.ensures refl

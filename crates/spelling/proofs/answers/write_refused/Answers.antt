@@ -8,12 +8,12 @@ pub returns : goal.returns
 returns c =
     let word : List ℕ = codes "refused" in
     let why : List ℕ = digits (number c.args.refusal) in
-    let t1 : List ℕ = vec_items c.write-number.new.text in
-    let t2 : List ℕ = vec_items c.extend-from-slice.new.self in
-    let t3 : List ℕ = vec_items c.write-next-number.new.text in
-    wrote_line c.extend-from-slice-2.result (vec_items c.args.text.now) t1 t3 (vec_items c.extend-from-slice-2.new.self) (digits c.args.line) (word ∷ why ∷ [])
-    c.in-ok-write-number.ensures
+    let t1 : List ℕ = vec_items c.write_number.new.text in
+    let t2 : List ℕ = vec_items c.extend_from_slice.new.self in
+    let t3 : List ℕ = vec_items c.write_next_number.new.text in
+    wrote_line c.extend_from_slice-2.result (vec_items c.args.text.now) t1 t3 (vec_items c.extend_from_slice-2.new.self) (digits c.args.line) (word ∷ why ∷ [])
+    c.in_ok-write_number.ensures
     (spaced_push t1 t2 t3 why (word ∷ [])
-    (spaced_one t1 t2 word c.in-ok-extend-from-slice.ensures.items)
-    (◌∙◌ {a = t3} {b = t2 ++ (32 ∷ digits c.number.result)} c.in-ok-write-next-number.ensures (ap (λ n. t2 ++ (32 ∷ digits n)) c.number.ensures)))
-    c.extend-from-slice-2.ensures.items
+    (spaced_one t1 t2 word c.in_ok-extend_from_slice.ensures.items)
+    (◌∙◌ {a = t3} {b = t2 ++ (32 ∷ digits c.number.result)} c.in_ok-write_next_number.ensures (ap (λ n. t2 ++ (32 ∷ digits n)) c.number.ensures)))
+    c.extend_from_slice-2.ensures.items

@@ -9,7 +9,7 @@ loop-result-preserved g c =
     (omega arith)
     c.result-item.is
     c.loop-result.invariant
-    c.in-ok-write-next-result.ensures
+    c.in_ok-write_next_result.ensures
 
 pub returns : goal.returns
 returns g c =

@@ -5,5 +5,5 @@ use Rattle.spelling.proofs.lamps.write_period.Goals as goal
 
 pub returns : goal.returns
 returns c =
-    wrote_behind c.write-number.result _ _ _ _ _ _ c.in-ok-extend-from-slice.ensures.items c.write-number.ensures
+    wrote_behind c.write_number.result _ _ _ _ _ _ c.in_ok-extend_from_slice.ensures.items c.write_number.ensures
     (ap (λ n. c.args.letter ∷ digits n) c.tenths.ensures)

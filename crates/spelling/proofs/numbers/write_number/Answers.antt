@@ -18,4 +18,4 @@ loop-rest-preserved c =
 pub returns : goal.returns
 returns c =
     let all = digits_first c.loop-rest.rest c.loop-rest.place 20 c.loop-rest.octets _ (omega arith) (omega arith) (omega arith) c.loop-rest.invariant.4 in
-    wrote_slice c.extend-from-slice.result _ _ _ _ c.extend-from-slice.ensures.items all
+    wrote_slice c.extend_from_slice.result _ _ _ _ c.extend_from_slice.ensures.items all

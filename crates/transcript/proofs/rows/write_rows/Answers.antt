@@ -5,8 +5,8 @@ use Rattle.transcript.proofs.rows.write_rows.Goals as goal
 
 pub loop-node-preserved : goal.loop-node-preserved
 loop-node-preserved g c =
-    rows_more g.R.Spelled.spelled (held c.args.desk.now) c.loop-node.node (vec_items c.args.text.now) (vec_items c.loop-node.text) (vec_items c.write-node.new.text)
-    c.loop-node.invariant c.in-ok-write-node.ensures
+    rows_more g.R.Spelled.spelled (held c.args.desk.now) c.loop-node.node (vec_items c.args.text.now) (vec_items c.loop-node.text) (vec_items c.write_node.new.text)
+    c.loop-node.invariant c.in_ok-write_node.ensures
 
 pub returns : goal.returns
 returns g c =

@@ -11,7 +11,7 @@ returns-in-Ok-Make c =
     let n = c.in-Ok-Make.n in
     let m = c.in-Ok-Make.m in
     let k = c.in-Ok-Make.kind in
-    made_same c.new-run.result (λ a. result_map_both standing (λ e. e) a) (made_run n m k) (first_run octets) (first_parsed octets (Ok (Make n m k)) (let h = c.in-Ok-Make.ensures in cc)) c.new-run.ensures
+    made_same c.new_run.result (λ a. result_map_both standing (λ e. e) a) (made_run n m k) (first_run octets) (first_parsed octets (Ok (Make n m k)) (let h = c.in-Ok-Make.ensures in cc)) c.new_run.ensures
 
 pub returns-in-Err : goal.returns-in-Err
 returns-in-Err c = first_parsed c.args.line.now (Err c.in-Err.fault) c.in-Err.ensures

@@ -7,4 +7,4 @@ pub returns : goal.returns
 returns c =
     transcribed c.finish.result (vec_items c.args.text.now) (vec_items c.feed.new.text) (vec_items c.finish.new.text)
     (view c.new-harbour.result) (view c.feed.new.self) (view c.finish.new.self) c.args.input.now
-    (omega arith) c.new-harbour.ensures c.in-ok-feed.ensures c.finish.ensures
+    (omega arith) c.new-harbour.ensures c.in_ok-feed.ensures c.finish.ensures

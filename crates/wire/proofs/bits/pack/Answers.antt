@@ -7,12 +7,12 @@ use Rattle.wire.proofs.bits.pack.Goals as goal
 pub loop-j-init : goal.loop-j-init
 loop-j-init c = sym (ap octet_of (drop_all (length c.args.bits.now) c.args.bits.now (omega arith)))
 
-pub overflow-mul-octet : goal.overflow-mul-octet
-overflow-mul-octet c =
+pub overflow_mul-octet : goal.overflow_mul-octet
+overflow_mul-octet c =
     omega (arith, octet_small c.args.bits.now c.loop-j.j c.loop-j.octet c.loop-j-test.true c.loop-j.auto.j c.requires c.loop-j.invariant)
 
-pub overflow-add-octet : goal.overflow-add-octet
-overflow-add-octet c =
+pub overflow_add-octet : goal.overflow_add-octet
+overflow_add-octet c =
     omega (arith, octet_small c.args.bits.now c.loop-j.j c.loop-j.octet c.loop-j-test.true c.loop-j.auto.j c.requires c.loop-j.invariant)
 
 pub loop-j-preserved-then-bits-j : goal.loop-j-preserved-then-bits-j

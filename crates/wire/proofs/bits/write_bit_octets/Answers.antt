@@ -11,7 +11,7 @@ loop-octet-preserved c =
     let e : k ≡ j + 1 = omega arith in
     let l : c.loop-octet.octet-index < length c.loop-octet.out = omega arith in
     packed_more k j c.loop-octet.octet-index c.min.result c.pack.result c.loop-octet.out _ c.loop-octet.rest.now _ _ l e
-    c.min.ensures c.split-at.ensures.front c.split-at.ensures.back c.pack.ensures c.loop-octet.invariant
+    c.min.ensures c.split_at.ensures.front c.split_at.ensures.back c.pack.ensures c.loop-octet.invariant
 
 pub returns : goal.returns
 returns c =

@@ -3,8 +3,8 @@ use Rattle.wire.specs.Items.{strange_at}
 use Rattle.wire.proofs.CellLaws.{rows_less, row_fits, faults_stop, faults_pass}
 use Rattle.wire.proofs.items.find_strange_cell.Goals as goal
 
-pub read-cell-requires : goal.read-cell-requires
-read-cell-requires g c =
+pub read_cell-requires : goal.read_cell-requires
+read_cell-requires g c =
     let i = c.loop-i.i in
     let s = g.R.Reading.width + 1 in
     omega (arith, row_fits i c.args.items s (length c.args.body.now) c.loop-i-test.true c.requires, rows_less (i + 1) i s (omega arith))

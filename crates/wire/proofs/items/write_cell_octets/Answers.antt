@@ -5,16 +5,16 @@ use Rattle.wire.specs.Items.{cell_octets}
 use Rattle.wire.proofs.CellLaws.{rows_less, row_fits, cell_long, cells_more}
 use Rattle.wire.proofs.items.write_cell_octets.Goals as goal
 
-pub slice-bounds-write-cell-end : goal.slice-bounds-write-cell-end
-slice-bounds-write-cell-end g c =
+pub slice-bounds-write_cell-end : goal.slice-bounds-write_cell-end
+slice-bounds-write_cell-end g c =
     let s = g.R.Reading.width + 1 in
     let l : length c.loop-cell.out ≡ length c.args.cells.now * s = c.loop-cell.auto.out ∙ c.requires in
     let r = row_fits c.loop-cell.cell-index (length c.args.cells.now) s (length c.loop-cell.out) c.loop-cell-test.true l in
     let e = c.stride-stride.ensures in
     omega arith
 
-pub overflow-add-start-in-loop-cell : goal.overflow-add-start-in-loop-cell
-overflow-add-start-in-loop-cell g c =
+pub overflow_add-start-in-loop-cell : goal.overflow_add-start-in-loop-cell
+overflow_add-start-in-loop-cell g c =
     let s = g.R.Reading.width + 1 in
     let l : length c.loop-cell.out ≡ length c.args.cells.now * s = c.loop-cell.auto.out ∙ c.requires in
     let r = row_fits c.loop-cell.cell-index (length c.args.cells.now) s (length c.loop-cell.out) c.loop-cell-test.true l in
@@ -32,10 +32,10 @@ loop-cell-preserved g c =
     let r = row_fits i (length c.args.cells.now) s (length c.loop-cell.out) c.loop-cell-test.true l in
     let e = c.stride-stride.ensures in
     let h : start ≤ length c.loop-cell.out = omega arith in
-    let y = ap length c.write-cell.ensures ∙ cell_long w g.R.Reading.octets g.met.R.Reading.long c.cell-item.result in
-    let n : start + c.stride-stride.result ≡ start + length c.write-cell.new.out = omega (arith, y) in (
+    let y = ap length c.write_cell.ensures ∙ cell_long w g.R.Reading.octets g.met.R.Reading.long c.cell-item.result in
+    let n : start + c.stride-stride.result ≡ start + length c.write_cell.new.out = omega (arith, y) in (
       cells_more f c.args.cells.now i start _ _ c.cell-item.result c.loop-cell.out
-          c.write-cell.new.out c.loop-cell-test.true c.cell-item.is c.loop-cell.invariant.0 c.write-cell.ensures n h,
+          c.write_cell.new.out c.loop-cell-test.true c.cell-item.is c.loop-cell.invariant.0 c.write_cell.ensures n h,
       omega (arith, rows_less (i + 1) i s (omega arith)),
     )
 

@@ -8,12 +8,12 @@ use Rattle.wire.proofs.ReadLaws.{passed}
 use Rattle.wire.proofs.WholeLaws.{whole_parts}
 use Rattle.wire.proofs.read.read_message.Given as given
 use Rattle.wire.proofs.read.read_message.Goals as goal
-use Rattle.wire.proofs.read.read_message.Goals.{After-find-fault}
+use Rattle.wire.proofs.read.read_message.Goals.{After-find_fault}
 
-stepped : (g : given.Over) (c : After-find-fault g) → c.from-be-bytes-step.result ≡ pair_at c.args.octets.now 1
+stepped : (g : given.Over) (c : After-find_fault g) → c.from_be_bytes-step.result ≡ pair_at c.args.octets.now 1
 stepped g c = search rules
 
-passes : (g : given.Over) (c : After-find-fault g)
+passes : (g : given.Over) (c : After-find_fault g)
     → read_answer g.R.Reading.width g.R.Reading.reads c.args.n c.args.m c.args.octets.now
     ≡ unless_fault (body_fault g.R.Reading.width g.R.Reading.reads c.in-Some.letter c.args.m (drop 5 c.args.octets.now))
     (parts_in c.in-Some.letter c.args.octets.now)
@@ -21,29 +21,29 @@ passes g c =
     let o = c.args.octets.now in
     let l = c.in-Some.letter in
     let long : 5 ≤ length o = search rules in
-    let fits : length o ≡ 5 + body_length g.R.Reading.width l c.args.m = omega (arith, c.count-body.ensures) in
+    let fits : length o ≡ 5 + body_length g.R.Reading.width l c.args.m = omega (arith, c.count_body.ensures) in
     let t : takes_step l (pair_at o 1) ≡ true = ap (takes_step l) (sym (stepped g c)) ∙ sym c.if-not-takes.ensures in
     passed g.R.Reading.width g.R.Reading.reads c.args.n c.args.m o l
-    (sym c.if-out-of-range.ensures) (sym c.if-out-of-range-2.ensures) long (sym c.in-Some.ensures) c.if-items-m.false
+    (sym c.if-out_of_range.ensures) (sym c.if-out_of_range-2.ensures) long (sym c.in-Some.ensures) c.if-items-m.false
     fits c.if-node-n.false t
 
-pub returns-in-Some-find-fault : goal.returns-in-Some-find-fault
-returns-in-Some-find-fault g c =
+pub returns-in-Some-find_fault : goal.returns-in-Some-find_fault
+returns-in-Some-find_fault g c =
     let o = c.args.octets.now in
     let l = c.in-Some.letter in
-    let b = c.in-Some-find-fault.ensures ∙ ap (body_fault g.R.Reading.width g.R.Reading.reads l c.args.m) (take_rest o 5) in
-    record { answer = sym (passes g (goal.at.returns-in-Some-find-fault g c).After-find-fault ∙ ap (λ f. unless_fault f (parts_in l o)) (sym b)); whole = tt }
+    let b = c.in-Some-find_fault.ensures ∙ ap (body_fault g.R.Reading.width g.R.Reading.reads l c.args.m) (take_rest o 5) in
+    record { answer = sym (passes g (goal.at.returns-in-Some-find_fault g c).After-find_fault ∙ ap (λ f. unless_fault f (parts_in l o)) (sym b)); whole = tt }
 
 pub returns : goal.returns
 returns g c =
     let o = c.args.octets.now in
-    let octet : (i : ℕ) → get_or o i 0 < 256 = λ i. omega (arith, c.type-inv.octets i) in
+    let octet : (i : ℕ) → get_or o i 0 < 256 = λ i. omega (arith, c.type_inv.octets i) in
     let l = c.in-Some.letter in
-    let b = c.in-default-find-fault.ensures ∙ ap (body_fault g.R.Reading.width g.R.Reading.reads l c.args.m) (take_rest o 5) in
-    let s = stepped g (goal.at.returns g c).After-find-fault in
+    let b = c.in-default-find_fault.ensures ∙ ap (body_fault g.R.Reading.width g.R.Reading.reads l c.args.m) (take_rest o 5) in
+    let s = stepped g (goal.at.returns g c).After-find_fault in
     let r = take_rest o 5 in
     let h = c.assemble.ensures ∙ cc (s, r) in
-    let a = ap Ok h ∙ sym (passes g (goal.at.returns g c).After-find-fault ∙ ap (λ f. unless_fault f (parts_in l o)) (sym b)) in
+    let a = ap Ok h ∙ sym (passes g (goal.at.returns g c).After-find_fault ∙ ap (λ f. unless_fault f (parts_in l o)) (sym b)) in
     record {
       answer = a;
       whole = (whole_parts g.R.Reading.width g.R.Reading.octets g.R.Reading.reads g.met.R.Reading.whole

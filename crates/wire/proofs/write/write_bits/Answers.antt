@@ -9,19 +9,19 @@ returns c =
     let h = bits_head c.args.head in
     let m = c.args.m in
     let out = c.args.out.now in
-    let long = c.in-ok-long.long in
+    let long = c.in_ok-long.long in
     let given = length c.args.bits.now in
-    let count : given ≡ m = c.in-ok-check-head.ensures.small.1 in
-    let room = c.in-ok-long.ensures.answer in
-    let size = room_passed long (5 + c.count-octets.result) (length out) room in
+    let count : given ≡ m = c.in_ok-check_head.ensures.small.1 in
+    let room = c.in_ok-long.ensures.answer in
+    let size = room_passed long (5 + c.count_octets.result) (length out) room in
     let five : 5 ≤ long = omega arith in
-    let front = c.in-ok-long.ensures.after ∙ ap (λ k. head_octets h k ++ drop 5 out) (sym count) in
+    let front = c.in_ok-long.ensures.after ∙ ap (λ k. head_octets h k ++ drop 5 out) (sym count) in
     record {
       answer =
           room
-          ∙ ap (λ s. room_check (5 + s) (length out)) c.count-octets.ensures
-          ∙ sym (head_passed h c.args.n m given tt _ (sym c.in-ok-check-head.ensures.answer));
+          ∙ ap (λ s. room_check (5 + s) (length out)) c.count_octets.ensures
+          ∙ sym (head_passed h c.args.n m given tt _ (sym c.in_ok-check_head.ensures.answer));
       after =
-          laid out c.write-head.new.out (head_octets h given) c.write-bit-octets.new.out long front refl five
-          ∙ ap (λ b. (head_octets h given ++ b) ++ drop long out) c.write-bit-octets.ensures;
+          laid out c.write_head.new.out (head_octets h given) c.write_bit_octets.new.out long front refl five
+          ∙ ap (λ b. (head_octets h given ++ b) ++ drop long out) c.write_bit_octets.ensures;
     }

@@ -9,19 +9,19 @@ returns g c =
     let h = cells_head c.args.head in
     let m = c.args.m in
     let out = c.args.out.now in
-    let long = c.in-ok-long.long in
+    let long = c.in_ok-long.long in
     let given = length c.args.cells.now in
-    let count : given ≡ m = c.in-ok-check-head.ensures.small.1 in
-    let room = c.in-ok-long.ensures.answer in
+    let count : given ≡ m = c.in_ok-check_head.ensures.small.1 in
+    let room = c.in_ok-long.ensures.answer in
     let size = room_passed long (5 + m * c.stride.result) (length out) room in
     let five : 5 ≤ long = omega arith in
-    let front = c.in-ok-long.ensures.after ∙ ap (λ k. head_octets h k ++ drop 5 out) (sym count) in
+    let front = c.in_ok-long.ensures.after ∙ ap (λ k. head_octets h k ++ drop 5 out) (sym count) in
     record {
       answer =
           room
           ∙ ap (λ s. room_check (5 + m * s) (length out)) c.stride.ensures
-          ∙ sym (head_passed h c.args.n m given tt _ (sym c.in-ok-check-head.ensures.answer));
+          ∙ sym (head_passed h c.args.n m given tt _ (sym c.in_ok-check_head.ensures.answer));
       after =
-          laid out c.write-head.new.out (head_octets h given) c.write-cell-octets.new.out long front refl five
-          ∙ ap (λ b. (head_octets h given ++ b) ++ drop long out) c.write-cell-octets.ensures;
+          laid out c.write_head.new.out (head_octets h given) c.write_cell_octets.new.out long front refl five
+          ∙ ap (λ b. (head_octets h given ++ b) ++ drop long out) c.write_cell_octets.ensures;
     }

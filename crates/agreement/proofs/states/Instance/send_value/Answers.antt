@@ -8,13 +8,13 @@ use Rattle.agreement.specs.Effects.{value_refusal}
 use Rattle.agreement.proofs.Paths.{value_on, value_short}
 use Rattle.agreement.proofs.states.Instance.send_value.Goals as goal
 
-pub returns-then-marks-needed : goal.returns-then-marks-needed
-returns-then-marks-needed g c =
+pub returns-then-marks_needed : goal.returns-then-marks_needed
+returns-then-marks_needed g c =
     let s = c.args.self.now in
     let sent = c.args.sent.now in
     let marks = c.args.marks.now in
     let k = value_refusal s sent marks c.args.sender c.args.receiver c.args.item in
-    let z : k ≡ Some Short = value_short s sent marks c.args.sender c.args.receiver c.args.item (omega (arith, c.marks-needed-needed.ensures)) (omega (arith, c.marks-needed-needed.ensures)) in
+    let z : k ≡ Some Short = value_short s sent marks c.args.sender c.args.receiver c.args.item (omega (arith, c.marks_needed-needed.ensures)) (omega (arith, c.marks_needed-needed.ensures)) in
     record {
       answer = sym (ap (λ j. answered j tt) z);
       sent = when_refused k Short _ _ _ z refl;
@@ -29,7 +29,7 @@ returns g c =
     let marks = c.args.marks.now in
     let k = value_refusal s sent marks c.args.sender c.args.receiver c.args.item in
     let q : send_checks s marks (not (sends_cells s.phase)) c.args.sender c.args.receiver c.args.item ≡ None = search rules in
-    let z : k ≡ None = value_on s sent marks c.args.sender c.args.receiver c.args.item None (omega (arith, c.marks-needed-needed.ensures)) (omega (arith, c.marks-needed-needed.ensures)) q in
+    let z : k ≡ None = value_on s sent marks c.args.sender c.args.receiver c.args.item None (omega (arith, c.marks_needed-needed.ensures)) (omega (arith, c.marks_needed-needed.ensures)) q in
     record {
       answer = sym (ap (λ j. answered j tt) z);
       sent = when_accepted k _ _ _ z (search rules);

@@ -10,5 +10,5 @@ returns c =
     let z : k ≡ None = search rules in
     record {
       answer = search rules;
-      list = when_listed t k _ _ z (listed t _ _ c.list-undecided.ensures);
+      list = when_listed t k _ _ z (listed t _ _ c.list_undecided.ensures);
     }

@@ -10,6 +10,6 @@ loop-k-preserved c =
     let k = c.loop-k.k in
     let f : ℕ → ℕ = λ j. mark_kept t (get_or marks j 0) j in
     let old : get_or c.loop-k.marks k 0 ≡ get_or marks k 0 = ap (λ ys. get_or ys k 0) c.loop-k.invariant ∙ written_past k f marks k 0 (omega arith) in
-    ap (λ x. set c.loop-k.marks k x) (c.next-mark-mark.ensures ∙ ap (λ x. mark_kept t x k) old)
+    ap (λ x. set c.loop-k.marks k x) (c.next_mark-mark.ensures ∙ ap (λ x. mark_kept t x k) old)
     ∙ ap (λ ys. set ys k (f k)) c.loop-k.invariant
     ∙ written_more f marks k

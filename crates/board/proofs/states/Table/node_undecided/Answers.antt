@@ -4,14 +4,14 @@ use Rattle.board.specs.Tables.{faulty_at, decided_at, undecided_at}
 use Rattle.board.proofs.Rows.{count_some, count_same, faulty_none}
 use Rattle.board.proofs.states.Table.node_undecided.Goals as goal
 
-pub returns-then-is-faulty : goal.returns-then-is-faulty
-returns-then-is-faulty c =
+pub returns-then-is_faulty : goal.returns-then-is_faulty
+returns-then-is_faulty c =
     let t = c.args.self.now in
     let f : faulty_at t c.args.node ≡ true = search rules in
     sym (ap not (eq-eqb _ 0 (faulty_none t c.args.node t.m f)))
 
-pub returns-then-not-is-decided : goal.returns-then-not-is-decided
-returns-then-not-is-decided c =
+pub returns-then-not-is_decided : goal.returns-then-not-is_decided
+returns-then-not-is_decided c =
     let t = c.args.self.now in
     let i = c.args.node in
     let f : faulty_at t i ≡ false = search rules in

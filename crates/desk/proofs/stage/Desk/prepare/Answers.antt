@@ -10,10 +10,10 @@ returns-in-Making g c =
     let d = c.args.self.now in
     let h = held d in
     let k = c.args.call.now in
-    let vs = c.apply-setup-answer.new.values in
-    let lv : length vs ≡ d.values.len = omega (arith, c.apply-setup-answer.auto.values, c.deref-mut.ensures.len) in
-    let p = prepared_by h c.in-Making.setup c.apply-setup-answer.new.setup k c.deref-mut.result.now vs c.apply-setup-answer.result c.done.result
-    c.deref-mut.ensures.value (omega (arith, c.deref-mut.ensures.len, d.cells.0)) c.apply-setup-answer.ensures c.done.ensures in
+    let vs = c.apply_setup-answer.new.values in
+    let lv : length vs ≡ d.values.len = omega (arith, c.apply_setup-answer.auto.values, c.deref_mut.ensures.len) in
+    let p = prepared_by h c.in-Making.setup c.apply_setup-answer.new.setup k c.deref_mut.result.now vs c.apply_setup-answer.result c.done.result
+    c.deref_mut.ensures.value (omega (arith, c.deref_mut.ensures.len, d.cells.0)) c.apply_setup-answer.ensures c.done.ensures in
     let e = c.in-Making.ensures.value in
     record {
       reply = p.0 ∙ ap (λ s. (on_setup h (prepares h k) s).reply) e;

@@ -8,7 +8,7 @@ pub returns-then-node-self : goal.returns-then-node-self
 returns-then-node-self g c =
     let e = c.args.self.now in
     let f = heard_mark e.table.now e.marks.now e.receiver e.item in
-    c.heard-mark.ensures ∙ sym (get_or-map-range_with_len f 0 e.table.now.n c.args.node c.args.node 0 (omega arith) (omega arith))
+    c.heard_mark.ensures ∙ sym (get_or-map-range_with_len f 0 e.table.now.n c.args.node c.args.node 0 (omega arith) (omega arith))
 
 pub returns-else-node-self : goal.returns-else-node-self
 returns-else-node-self g c =

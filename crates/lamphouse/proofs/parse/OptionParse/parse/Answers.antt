@@ -7,9 +7,9 @@ use Rattle.lamphouse.proofs.parse.OptionParse.parse.Goals as goal
 pub returns-in-Ok : goal.returns-in-Ok
 returns-in-Ok g c =
     let f = c.args.field.now in
-    let k = c.in-ok-count.count in
-    let out = c.hex-octets.new.out in
-    let came = c.in-ok-count.ensures in
+    let k = c.in_ok-count.count in
+    let out = c.hex_octets.new.out in
+    let came = c.in_ok-count.ensures in
     let h = front_of (hex_octets_of 8 f) _ out k came.count came.places in
     cell_read g.R.Reading.reads f out k (Some c.in-Ok.r) c.if-dash.ensures h
     (read_ok (g.R.Reading.reads (take (k - 0) out)) c.in-Ok.r StrangeReading c.in-Ok.ensures)
@@ -17,9 +17,9 @@ returns-in-Ok g c =
 pub returns-in-Err : goal.returns-in-Err
 returns-in-Err g c =
     let f = c.args.field.now in
-    let k = c.in-ok-count.count in
-    let out = c.hex-octets.new.out in
-    let came = c.in-ok-count.ensures in
+    let k = c.in_ok-count.count in
+    let out = c.hex_octets.new.out in
+    let came = c.in_ok-count.ensures in
     let h = front_of (hex_octets_of 8 f) _ out k came.count came.places in
     cell_read g.R.Reading.reads f out k None c.if-dash.ensures h
     (read_err (g.R.Reading.reads (take (k - 0) out)) c.in-Err.field-0 StrangeReading c.in-Err.ensures)

@@ -4,14 +4,14 @@ use Rattle.lines.specs.Digits.{hex_octets_of}
 use Rattle.lamphouse.proofs.HexLaws.{none_came, first_of}
 use Rattle.lamphouse.proofs.parse.U8Parse.parse.Goals as goal
 
-pub returns-in-err-hex-octets : goal.returns-in-err-hex-octets
-returns-in-err-hex-octets c =
+pub returns-in_err-hex_octets : goal.returns-in_err-hex_octets
+returns-in_err-hex_octets c =
     let o = hex_octets_of 1 c.args.field.now in
-    let n = none_came o c.in-err-hex-octets.ensures.count in
-    c.from-residual.ensures ∙ sym (ap (λ (x : Option (List ℕ)). option_map (λ os. get_or os 0 0) x) n)
+    let n = none_came o c.in_err-hex_octets.ensures.count in
+    c.from_residual.ensures ∙ sym (ap (λ (x : Option (List ℕ)). option_map (λ os. get_or os 0 0) x) n)
 
 pub returns : goal.returns
 returns c =
     let o = hex_octets_of 1 c.args.field.now in
-    let came = c.in-ok-hex-octets.ensures in
-    first_of o c.hex-octets.new.out c.in-ok-hex-octets.field-0 came.count came.places
+    let came = c.in_ok-hex_octets.ensures in
+    first_of o c.hex_octets.new.out c.in_ok-hex_octets.field-0 came.count came.places

@@ -18,18 +18,18 @@ returns-in-Ok g c =
     let old = c.args.answers.now in
     let h : Held g.row.R.Denot = record {
       node = s.node;
-      world = record { state = s.instance; values = s.values.items; sent = c.deref-mut.result.now; marks = c.deref-mut-in-Ok.result.now };
+      world = record { state = s.instance; values = s.values.items; sent = c.deref_mut.result.now; marks = c.deref_mut-in-Ok.result.now };
       strip = s.entries.items;
     } in
-    let ls : length called.new.sent ≡ s.sent.len = omega (arith, called.auto.sent, c.deref-mut.ensures.len) in
-    let lm : length called.new.marks ≡ s.marks.len = omega (arith, called.auto.marks, c.deref-mut-in-Ok.ensures.len) in
+    let ls : length called.new.sent ≡ s.sent.len = omega (arith, called.auto.sent, c.deref_mut.ensures.len) in
+    let lm : length called.new.marks ≡ s.marks.len = omega (arith, called.auto.marks, c.deref_mut-in-Ok.ensures.len) in
     let q = c.in-Ok.ensures.answer
     ∙ ap (λ (k : ℕ). read_answer w reads k c.items-m.result o) c.nodes-n.ensures
     ∙ ap (λ (k : ℕ). read_answer w reads s.instance.table.n k o) c.items-m.ensures in
     let p = heard meaning w reads h (parts_of c.in-Ok.message) (heard_parts w reads h o) called.new.instance called.new.sent called.new.marks old called.new.answers called.result
-    (omega (arith, s.values.ok.0, s.cells.0)) (omega (arith, c.deref-mut.ensures.len, s.pairs.0)) (omega (arith, c.deref-mut-in-Ok.ensures.len, s.pairs.1))
+    (omega (arith, s.values.ok.0, s.cells.0)) (omega (arith, c.deref_mut.ensures.len, s.pairs.0)) (omega (arith, c.deref_mut-in-Ok.ensures.len, s.pairs.1))
     q called.ensures.answer called.ensures.delivers in
-    let e : h ≡ held s = same_held s.node _ _ _ _ _ _ _ _ _ _ refl refl c.deref-mut.ensures.value c.deref-mut-in-Ok.ensures.value refl in
+    let e : h ≡ held s = same_held s.node _ _ _ _ _ _ _ _ _ _ refl refl c.deref_mut.ensures.value c.deref_mut-in-Ok.ensures.value refl in
     let x = subst (λ y. Hears meaning w reads y (then_held h called.new.instance h.world.values called.new.sent called.new.marks) (heard_parts w reads y o) old called.new.answers called.result) e p in
     record {
       answer = x.answer;

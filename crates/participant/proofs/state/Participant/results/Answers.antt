@@ -8,7 +8,7 @@ pub loop-item-preserved : goal.loop-item-preserved
 loop-item-preserved g c =
     let f : ℕ → Option (Option g.row.R.Denot) = λ k. decided_cell (decision_at (held c.args.self.now) k) in
     each_more f c.loop-item.item (vec_items c.loop-item.list) (vec_items c.push.new.self) c.in-Some.cell
-    c.loop-item.invariant (c.in-Some.ensures ∙ ap decided_cell c.decision.ensures) c.in-ok-push.ensures.items
+    c.loop-item.invariant (c.in-Some.ensures ∙ ap decided_cell c.decision.ensures) c.in_ok-push.ensures.items
 
 pub returns-in-default : goal.returns-in-default
 returns-in-default g c =

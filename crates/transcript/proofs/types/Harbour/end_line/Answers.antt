@@ -7,5 +7,5 @@ use Rattle.transcript.proofs.types.Harbour.end_line.Goals as goal
 
 pub returns : goal.returns
 returns c =
-    line_ended (view c.args.self.now) (vec_items c.args.text.now) (vec_items c.answer-gathered.new.text) (standing c.answer-gathered.new.run) (held c.clear.new.self)
-    c.in-ok-answer-gathered.ensures c.clear.ensures.held
+    line_ended (view c.args.self.now) (vec_items c.args.text.now) (vec_items c.answer_gathered.new.text) (standing c.answer_gathered.new.run) (held c.clear.new.self)
+    c.in_ok-answer_gathered.ensures c.clear.ensures.held

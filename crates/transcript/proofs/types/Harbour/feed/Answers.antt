@@ -8,7 +8,7 @@ loop-octet-init c = record { text = refl; after = refl }
 
 pub loop-octet-preserved : goal.loop-octet-preserved
 loop-octet-preserved c =
-    let said = c.in-ok-take.ensures in
+    let said = c.in_ok-take.ensures in
     feeds_more _ _ (vec_items c.loop-octet.text) (vec_items c.take.new.text) (view c.loop-octet.self) (view c.take.new.self) c.args.octets.now c.loop-octet.octet-index
     (omega arith) said.0 said.1 c.loop-octet.invariant
 

@@ -9,7 +9,7 @@ returns c =
 
 pub loop-start-preserved : goal.loop-start-preserved
 loop-start-preserved c =
-    let said = c.in-ok-feed.ensures in (
+    let said = c.in_ok-feed.ensures in (
       omega arith,
       feeds_part _ _ (vec_items c.loop-start.text) (vec_items c.feed.new.text) (view c.loop-start.self) (view c.feed.new.self) c.args.octets.now _ c.loop-start.start (c.loop-start.start + c.min.result)
           (omega arith) refl said.0 said.1 c.loop-start.invariant.1,
