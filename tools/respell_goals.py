@@ -22,7 +22,8 @@ found = {}
 def turned(name):
     if name not in found:
         new = name
-        new = re.sub(r"(?<![\w'])([Ii])n-(ok|err)(?=-)", r"\1n_\2", new)
+        new = re.sub(r"(?<![\w'])([Ii])n-(ok|err|default)(?=-|$)", r"\1n_\2", new)
+        new = re.sub(r"(?<![\w'])(offset|slice)-bounds(?=-)", r"\1_bounds", new)
         new = re.sub(r"(?<![\w'])overflow-(add|sub|mul|cast|shl|shr|neg|div|rem)(?=-)", r"overflow_\1", new)
         for old, word in dashed:
             new = re.sub(r"(?<![\w'])" + re.escape(old) + r"(?![\w'])", word, new)
@@ -39,7 +40,7 @@ def turn(line):
 
     def one(m):
         before = line[: m.start()]
-        made = goals or before.endswith(".") or re.fullmatch(r"(?:abbrev )?(?:pub )?", before) or re.match(r"(?:In|After|Then|Else|At|Joined)-", m.group(0))
+        made = goals or before.endswith(".") or re.fullmatch(r"(?:abbrev )?(?:pub )?", before) or re.match(r"(?:In|After|Then|Else|At|Joined|then|else|in|returns)-", m.group(0))
         if m.group(0).startswith("-") and not before.endswith("."):
             return m.group(0)
         return turned(m.group(0)) if made else m.group(0)

@@ -2,7 +2,7 @@ use Rattle.std.proofs.Common.{◌≡◌, ℕ, ◌+◌, ◌-◌, ◌*◌, ◌<◌
 use mathlib.Core.Bool.{and-false}
 use Rattle.std.specs.Option.{option_map}
 use Rattle.std.proofs.lemmas.List.{append_assoc, append-nil, take_rest, take-append-drop, take_more_set, drop-drop, drop-set-lt, length-drop, length-take-le}
-use Rattle.std.proofs.lemmas.Bool.{true≢false, le-ltb, lt-leb}
+use Rattle.std.proofs.lemmas.Bool.{true≢false, le-ltb, lt-leb, lt-ltb, le-leb}
 use Rattle.lines.specs.Digits.{and_then, octet_of, octets_of, hex_octets_of, written}
 
 -- how many octets there are with those that were counted before
@@ -79,3 +79,15 @@ none_fit (Some os) n places e (inr l) =
 -- a field of no octets, or of more than there are places for
 pub no_octets : (bs : List ℕ) (n places : ℕ) → Some n ≡ option_map (λ os. length os) (octets_of bs) → (n ≡ 0) ⊎ (places < n) → hex_octets_of places bs ≡ None
 no_octets bs = none_fit (octets_of bs)
+
+some_fit : (o : Option (List ℕ)) (n places : ℕ) → Some n ≡ option_map (λ os. length os) o → 0 < n → n ≤ places → o ≡ and_then o (λ os. cond (ltb 0 (length os) && leb (length os) places) (Some os) None)
+some_fit None n places e h l = refl
+some_fit (Some os) n places e h l =
+    let same : n ≡ length os = cc in
+    let some : ltb 0 (length os) ≡ true = lt-ltb 0 (length os) (omega arith) in
+    let fits : leb (length os) places ≡ true = le-leb (length os) places (omega arith) in
+    rw (some, fits)
+
+-- a field of some octets, with places for them
+pub fit_octets : (bs : List ℕ) (n places : ℕ) → Some n ≡ option_map (λ os. length os) (octets_of bs) → 0 < n → n ≤ places → octets_of bs ≡ hex_octets_of places bs
+fit_octets bs = some_fit (octets_of bs)

@@ -64,7 +64,7 @@ pub trait Reading: Copy {
 
 // What is written reads back unchanged, and octets that are read are those that the reading writes, in every kind.
 pub fn round_trips<R: Reading>() -> u8
-    ensures { RoundTrips width octets reads }
+    ensures { RoundTrips R.width R.octets R.reads }
 {
     0
 }

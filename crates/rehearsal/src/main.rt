@@ -31,7 +31,7 @@ fn run_fixed(
     let entries = [entry];
     let strip = match Strip::new(&entries) {
         Ok(strip) => strip,
-        Err(refusal) => return Err(refusal.word().into()),
+        Err(refusal) => return Err(anyhow::anyhow!("{refusal}")),
     };
     let answers = perform(heap, script, &strip)?;
     let tally = tally_up(heap, script, &answers)?;

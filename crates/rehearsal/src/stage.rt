@@ -96,6 +96,6 @@ pub fn perform<R: Reading, C: Coin>(
     );
     match played {
         Ok(_) => Ok(answers),
-        Err(refusal) => Err(refusal.word().into()),
+        Err(refusal) => Err(anyhow::anyhow!("{refusal}")),
     }
 }

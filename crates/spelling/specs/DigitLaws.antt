@@ -7,7 +7,7 @@ use Rattle.std.proofs.ByRecursion.{All-append}
 use Rattle.std.proofs.lemmas.List.{append_assoc, length-set, drop-set}
 use Rattle.std.proofs.lemmas.Slice.{between_to_end}
 use Rattle.std.proofs.lemmas.Bool.{cond_both, ne_eqb, le-leb, lt-ltb, and_right}
-use Rattle.std.specs.List.{AllByRecursion as All}
+use Rattle.std.specs.List.{AllByRecursion}
 use Rattle.lines.specs.Digits.{and_then, digit_of, read_on, decimal_of}
 use Rattle.lines.specs.Fields.{fields, is_dash}
 use Rattle.spelling.specs.Numbers.{digits_by, digits}
@@ -90,19 +90,19 @@ digits_back n h =
     rw (in_decimal n small, low, high) (read_back n small)
 
 -- no octet of digits is below 48
-high_by : (k n : ℕ) → All (λ b. 48 ≤ b) (digits_by k n)
+high_by : (k n : ℕ) → AllByRecursion (λ b. 48 ≤ b) (digits_by k n)
 high_by zero n = tt
 high_by (suc k) n =
-    cond_both (nat_lt n 10) ((48 + n) ∷ []) (digits_by k (n / 10) ++ ((48 + n % 10) ∷ [])) (All (λ b. 48 ≤ b))
+    cond_both (nat_lt n 10) ((48 + n) ∷ []) (digits_by k (n / 10) ++ ((48 + n % 10) ∷ [])) (AllByRecursion (λ b. 48 ≤ b))
     (λ _. (omega arith, tt))
     (λ _. All-append (λ b. 48 ≤ b) (digits_by k (n / 10)) ((48 + n % 10) ∷ []) (high_by k (n / 10)) (omega arith, tt))
 
-high : (n : ℕ) → All (λ b. 48 ≤ b) (digits n)
+high : (n : ℕ) → AllByRecursion (λ b. 48 ≤ b) (digits n)
 unfolding digits
 high n = high_by 20 n
 
 -- digits are one field
-field_of : (bs : List ℕ) → All (λ b. 48 ≤ b) bs → fields 32 bs ≡ bs ∷ []
+field_of : (bs : List ℕ) → AllByRecursion (λ b. 48 ≤ b) bs → fields 32 bs ≡ bs ∷ []
 field_of [] h = refl
 field_of (b ∷ bs) h =
     let here : nat_eq b 32 ≡ false = ne_eqb b 32 (λ e. omega (arith, h.0)) in
@@ -112,7 +112,7 @@ pub digits_field : (n : ℕ) → fields 32 (digits n) ≡ digits n ∷ []
 digits_field n = field_of (digits n) (high n)
 
 -- digits are no dash
-no_dash : (bs : List ℕ) → All (λ b. 48 ≤ b) bs → is_dash bs ≡ false
+no_dash : (bs : List ℕ) → AllByRecursion (λ b. 48 ≤ b) bs → is_dash bs ≡ false
 no_dash [] h = refl
 no_dash (b ∷ bs) h =
     let here : nat_eq b 45 ≡ false = ne_eqb b 45 (λ e. omega (arith, h.0)) in

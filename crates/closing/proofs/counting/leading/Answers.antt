@@ -3,7 +3,7 @@ use Rattle.std.proofs.lemmas.Bool.{le-leb, lt-leb}
 use Rattle.closing.specs.Counting.{backed}
 use Rattle.closing.proofs.Scans.{first_on, first_at, first_out}
 use Rattle.closing.proofs.counting.leading.Goals as goal
-use Rattle.closing.proofs.counting.leading.Goals.{in-Some+else-q-count_backers, in-default}
+use Rattle.closing.proofs.counting.leading.Goals.{in-Some+else-q-count_backers, in_default}
 
 pub returns-then-q-count_backers : goal.returns-then-q-count_backers
 returns-then-q-count_backers g c =
@@ -19,9 +19,9 @@ loop-node-preserved g c =
     let h : c.loop-node.node < length xs = omega arith in
     let p = backed g.R.Reading.meaning c.args.q xs in
     elim c.match-cell.branch [
-      | in-Some+else-q-count-backers w ↦
+      | in-Some+else-q-count_backers w ↦
           sym (first_on p xs c.loop-node.node (Some w.in-Some.r) h w.in-Some.ensures (lt-leb _ _ (omega (arith, w.count_backers.ensures, w.if-q-count_backers.false)))) ∙ c.loop-node.invariant
-      | in-default w ↦ sym (first_on p xs c.loop-node.node None h w.in-default.ensures refl) ∙ c.loop-node.invariant
+      | in_default w ↦ sym (first_on p xs c.loop-node.node None h w.in_default.ensures refl) ∙ c.loop-node.invariant
     ]
 
 pub returns : goal.returns

@@ -10,9 +10,9 @@ returns-in-Ok g c =
 pub returns-then-item-eq1 : goal.returns-then-item-eq1
 returns-then-item-eq1 g c =
     let o = c.args.item.now in
-    strange_reading g.R.Reading.reads o c.in-default.field-0 (c.in-default.ensures ∙ asked g.R.Reading.width g.R.Reading.reads o c.requires) c.if-item-eq1.true
+    strange_reading g.R.Reading.reads o c.in_default.field-0 (c.in_default.ensures ∙ asked g.R.Reading.width g.R.Reading.reads o c.requires) c.if-item-eq1.true
 
 pub returns-else-item-eq1 : goal.returns-else-item-eq1
 returns-else-item-eq1 g c =
     let o = c.args.item.now in
-    strange_flag g.R.Reading.reads o c.in-default.field-0 (c.in-default.ensures ∙ asked g.R.Reading.width g.R.Reading.reads o c.requires) c.if-item-eq1.false
+    strange_flag g.R.Reading.reads o c.in_default.field-0 (c.in_default.ensures ∙ asked g.R.Reading.width g.R.Reading.reads o c.requires) c.if-item-eq1.false

@@ -17,14 +17,14 @@ pub read_cells-requires : goal.read_cells-requires
 read_cells-requires g c =
     whole_rows (length c.args.octets.now) c.stride-stride.result g.R.Reading.width c.stride-stride.ensures c.if-octets-stride-ne0.false
 
-pub returns-in-default : goal.returns-in-default
-returns-in-default g c =
+pub returns-in_default : goal.returns-in_default
+returns-in_default g c =
     let w = g.R.Reading.width in
     let reads = g.R.Reading.reads in
     let o = c.args.octets.now in
     let s = c.stride-stride.ensures in
     let whole : length o % (w + 1) ≡ 0 = ap (λ n. length o % n) (sym s) ∙ c.if-octets-stride-ne0.false in
-    let some = fault_there (cells_fault w reads o 0 (length o / c.stride-stride.result)) tt c.in-default.field-0 c.in-default.ensures.answer in
+    let some = fault_there (cells_fault w reads o 0 (length o / c.stride-stride.result)) tt c.in_default.field-0 c.in_default.ensures.answer in
     let e = ap (λ n. cells_fault w reads o 0 (length o / n)) s in
     strange_cells w g.R.Reading.meaning reads c.args.request.now c.args.strip.now o c.args.marks.now
     c.if-strip-eq1.false whole c.if-request-gt1.false (rw e at some)

@@ -11,10 +11,10 @@ loop-item-preserved g c =
     begun_more c.args.outcome.now.table c.args.values.now c.requires c.args.node c.loop-item.item c.loop-item.list.items c.push.new.self.items c.in-Ok.decision
     c.loop-item.invariant c.in-Ok.ensures c.in_ok-push.ensures.items
 
-pub returns-in-default : goal.returns-in-default
-returns-in-default g c =
-    begun_to c.args.outcome.now.table c.args.values.now c.requires c.args.node c.loop-item.list.items c.loop-item.item c.in-default.field-0
-    c.loop-item.invariant c.in-default.ensures
+pub returns-in_default : goal.returns-in_default
+returns-in_default g c =
+    begun_to c.args.outcome.now.table c.args.values.now c.requires c.args.node c.loop-item.list.items c.loop-item.item c.in_default.field-0
+    c.loop-item.invariant c.in_default.ensures
 
 pub returns : goal.returns
 returns g c =

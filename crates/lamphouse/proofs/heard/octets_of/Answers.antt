@@ -3,8 +3,8 @@ use Rattle.lines.specs.Digits.{hex_octets_of}
 use Rattle.lamphouse.proofs.HexLaws.{none_came, front_of, few_of}
 use Rattle.lamphouse.proofs.heard.octets_of.Goals as goal
 
-pub returns-in-default : goal.returns-in-default
-returns-in-default c = sym (none_came (hex_octets_of 100 c.args.digits.now) c.in-default.ensures.count)
+pub returns-in_default : goal.returns-in_default
+returns-in_default c = sym (none_came (hex_octets_of 100 c.args.digits.now) c.in_default.ensures.count)
 
 pub front-requires : goal.front-requires
 front-requires c =

@@ -12,7 +12,7 @@ loop-place-init g c =
     c.args.instance.now c.args.sent.now c.args.marks.now
 
 pub send_part-answer-requires : goal.send_part-answer-requires
-send_part-answer-requires g c κs = λ h.
+send_part-answer-requires g c h =
     let p = parts_of c.args.message.now in
     none_of_all (is_strange g.R.Reading.width g.R.Reading.reads p p.front.letter) p.count c.loop-place.place c.requires.told h
 

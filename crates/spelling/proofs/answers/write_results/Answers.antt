@@ -5,7 +5,7 @@ use Rattle.spelling.proofs.answers.write_results.Goals as goal
 
 pub loop-result-preserved : goal.loop-result-preserved
 loop-result-preserved g c =
-    spaced_more (result_text g.R.Spelled.spelled) c.args.results.now c.loop-result.result_index c.result-item.result _ _ _
+    spaced_more (result_text g.R.Spelled.spelled) c.args.results.now c.loop-result.result-index c.result-item.result _ _ _
     (omega arith)
     c.result-item.is
     c.loop-result.invariant
@@ -13,4 +13,4 @@ loop-result-preserved g c =
 
 pub returns : goal.returns
 returns g c =
-    spaced_all (result_text g.R.Spelled.spelled) c.args.results.now c.loop-result.result_index _ _ (omega arith) c.loop-result.invariant
+    spaced_all (result_text g.R.Spelled.spelled) c.args.results.now c.loop-result.result-index _ _ (omega arith) c.loop-result.invariant

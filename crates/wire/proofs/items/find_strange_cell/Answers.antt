@@ -25,5 +25,5 @@ loop-i-preserved g c =
     let k = c.args.items - i in
     let j = c.args.items - (i + 1) in
     let e : k ≡ j + 1 = omega arith in
-    sym (faults_pass g.R.Reading.reads g.R.Reading.width k j i c.in-default.field-0 c.args.body.now e c.in-default.ensures)
+    sym (faults_pass g.R.Reading.reads g.R.Reading.width k j i c.in_default.field-0 c.args.body.now e c.in_default.ensures)
     ∙ c.loop-i.invariant

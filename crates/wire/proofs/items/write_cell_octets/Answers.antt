@@ -5,8 +5,8 @@ use Rattle.wire.specs.Items.{cell_octets}
 use Rattle.wire.proofs.CellLaws.{rows_less, row_fits, cell_long, cells_more}
 use Rattle.wire.proofs.items.write_cell_octets.Goals as goal
 
-pub slice-bounds-write_cell-end : goal.slice-bounds-write_cell-end
-slice-bounds-write_cell-end g c =
+pub slice_bounds-write_cell-end : goal.slice_bounds-write_cell-end
+slice_bounds-write_cell-end g c =
     let s = g.R.Reading.width + 1 in
     let l : length c.loop-cell.out ≡ length c.args.cells.now * s = c.loop-cell.auto.out ∙ c.requires in
     let r = row_fits c.loop-cell.cell-index (length c.args.cells.now) s (length c.loop-cell.out) c.loop-cell-test.true l in

@@ -8,8 +8,8 @@ use Rattle.agreement.specs.Effects.{value_refusal}
 use Rattle.agreement.proofs.Paths.{value_on, value_short}
 use Rattle.agreement.proofs.states.Instance.send_value.Goals as goal
 
-pub returns-then-marks_needed : goal.returns-then-marks_needed
-returns-then-marks_needed g c =
+pub returns-then-marks-needed : goal.returns-then-marks-needed
+returns-then-marks-needed g c =
     let s = c.args.self.now in
     let sent = c.args.sent.now in
     let marks = c.args.marks.now in

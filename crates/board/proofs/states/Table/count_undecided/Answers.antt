@@ -17,6 +17,6 @@ loop-k-preserved c =
     let one : Bool → ℕ = λ b. cond b 1 0 in
     let s = count_more (λ k. undecided_at t (k / t.m) (k % t.m)) c.loop-k.k in
     elim c.if-is_undecided.branch [
-      | then-is-undecided w ↦ (let e = ap one w.if-is_undecided.ensures in (omega (arith, s, e, w.count-is, c.loop-k.invariant.0), omega (arith, w.count-is, c.loop-k.invariant.1)))
-      | else-is-undecided w ↦ (let e = ap one w.if-is_undecided.ensures in (omega (arith, s, e, w.count-is, c.loop-k.invariant.0), omega (arith, w.count-is, c.loop-k.invariant.1)))
+      | then-is_undecided w ↦ (let e = ap one w.if-is_undecided.ensures in (omega (arith, s, e, w.count-is, c.loop-k.invariant.0), omega (arith, w.count-is, c.loop-k.invariant.1)))
+      | else-is_undecided w ↦ (let e = ap one w.if-is_undecided.ensures in (omega (arith, s, e, w.count-is, c.loop-k.invariant.0), omega (arith, w.count-is, c.loop-k.invariant.1)))
     ]

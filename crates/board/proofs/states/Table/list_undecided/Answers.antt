@@ -20,8 +20,8 @@ room c =
     let h = count_below (open_at t) c.loop-k.k c.cells_needed-k-end.result (omega arith) (sym c.if-is_undecided.ensures) in
     omega (arith, h, c.loop-k.invariant.0, c.requires, ap (λ i. count_by (open_at t) (range_with_len 0 i)) c.cells_needed-k-end.ensures)
 
-pub offset-bounds-list-count : goal.offset-bounds-list-count
-offset-bounds-list-count c = let h = room c in search rules
+pub offset_bounds-list-count : goal.offset_bounds-list-count
+offset_bounds-list-count c = let h = room c in search rules
 
 pub bounds-list-count : goal.bounds-list-count
 bounds-list-count c = room c
@@ -38,7 +38,7 @@ loop-k-preserved c =
     let one : Bool → ℕ = λ b. cond b 1 0 in
     let s = count_more (open_at t) k in
     elim c.if-is_undecided.branch [
-      | then-is-undecided w ↦
+      | then-is_undecided w ↦
           (let u : open_at t k ≡ true = sym w.if-is_undecided.ensures in
           let b = count_below (open_at t) k c.cells_needed-k-end.result (omega arith) u in
           let h : n < length xs = omega (arith, b, c.loop-k.invariant.0, c.requires, ap (λ i. count_by (open_at t) (range_with_len 0 i)) c.cells_needed-k-end.ensures) in (
@@ -48,7 +48,7 @@ loop-k-preserved c =
                 ∙ list_yes t k n xs u c.loop-k.invariant.0 h
                 ∙ ap (λ i. entries t (k + 1) ++ drop i xs) (sym w.count-is),
           ))
-      | else-is-undecided w ↦
+      | else-is_undecided w ↦
           (let u : open_at t k ≡ false = sym w.if-is_undecided.ensures in (
             omega (arith, s, ap one u, w.count-is, c.loop-k.invariant.0),
             w.list-is

@@ -10,11 +10,11 @@ loop-item-preserved g c =
     each_more f c.loop-item.item (vec_items c.loop-item.list) (vec_items c.push.new.self) c.in-Some.cell
     c.loop-item.invariant (c.in-Some.ensures ∙ ap decided_cell c.decision.ensures) c.in_ok-push.ensures.items
 
-pub returns-in-default : goal.returns-in-default
-returns-in-default g c =
+pub returns-in_default : goal.returns-in_default
+returns-in_default g c =
     let f : ℕ → Option (Option g.row.R.Denot) = λ k. decided_cell (decision_at (held c.args.self.now) k) in
     each_missing f c.loop-item.item c.args.self.now.instance.table.m (omega (arith, c.loop-item-test.true, c.items-item-end.ensures))
-    (c.in-default.ensures ∙ ap decided_cell c.decision.ensures)
+    (c.in_default.ensures ∙ ap decided_cell c.decision.ensures)
 
 pub returns : goal.returns
 returns g c =

@@ -19,10 +19,10 @@ returns-in-Lamps c =
 
 pub returns-in-Ok : goal.returns-in-Ok
 returns-in-Ok c =
-    by_making (vec_items c.args.text.now) c.args.number c.args.line.now (standing c.args.self.now) (standing c.in-Ok.run') (ap standing c.in-Fresh.is) (sym (ap (λ o. result_map_both standing (λ e. e) o) c.in-Ok.is) ∙ c.in_ok-run.ensures)
+    by_making (vec_items c.args.text.now) c.args.number c.args.line.now (standing c.args.self.now) (standing c.in-Ok.run') (ap standing c.in-Fresh.is) (sym (ap (λ o. result_map_both standing (λ e. e) o) c.in-Ok.is) ∙ c.in_ok-run-in-Fresh.ensures)
 
 pub returns-in-Err : goal.returns-in-Err
 returns-in-Err c =
     let call = c.write_refused in
     by_refusal call.result (vec_items c.args.text.now) (vec_items call.new.text) c.args.number c.args.line.now
-    (standing c.args.self.now) c.in-Err.refusal (ap standing c.in-Fresh.is) (sym (ap (λ o. result_map_both standing (λ e. e) o) c.in-Err.is) ∙ c.in_ok-run.ensures) call.ensures
+    (standing c.args.self.now) c.in-Err.refusal (ap standing c.in-Fresh.is) (sym (ap (λ o. result_map_both standing (λ e. e) o) c.in-Err.is) ∙ c.in_ok-run-in-Fresh.ensures) call.ensures
