@@ -3,16 +3,15 @@ use Rattle.std.proofs.lemmas.List.{take_at}
 use Rattle.participant.proofs.BeginLaws.{strip_long, participant_begun}
 use Rattle.participant.proofs.state.Participant.begin.Goals as goal
 
-pub invariant_of-result : goal.invariant-of-result
+pub invariant_of-result : goal.invariant_of-result
 invariant_of-result g c =
     let long = strip_long c.args.n c.args.m c.args.node (length c.args.entries.now) (length c.args.cells.now) c.in_default.ensures in
-    let copied = c.in_ok-entries.ensures.len in (
-      (c.in_ok-values.ensures.1, c.in_ok-scratch.ensures.1),
-      (
-        (c.in_ok-sent.ensures.1, c.in_ok-marks.ensures.1),
-        ((omega (arith, copied, long.0), omega (arith, copied, long.1)), tt),
-      ),
-    )
+    let copied = c.in_ok-entries.ensures.len in
+    record {
+      cells = (c.in_ok-values.ensures.1, c.in_ok-scratch.ensures.1);
+      pairs = (c.in_ok-sent.ensures.1, c.in_ok-marks.ensures.1);
+      strip = (omega (arith, copied, long.0), omega (arith, copied, long.1));
+    }
 
 pub returns-in-Ok : goal.returns-in-Ok
 returns-in-Ok g c =
