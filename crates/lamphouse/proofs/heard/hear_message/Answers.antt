@@ -19,10 +19,10 @@ returns-in-Ok g c =
     let long : length answers ≡ c.in_ok-answers.answers.len = omega (arith, c.hear.auto.answers, c.deref_mut.ensures.len) in
     let places : length c.deref_mut.result.now ≡ 17 = omega (arith, c.deref_mut.ensures.len, c.in_ok-answers.ensures) in
     subst (λ (k : ℕ). HeardSo g.R.Reading.meaning g.R.Reading.width g.R.Reading.reads k (held c.args.participant.now) (held c.hear.new.self) c.args.octets.now
-    (Ok (vec_items c.in_ok-answer_numbers.field-0))) places
+    (Ok (vec_items c.in_ok-answer_numbers-in-Ok.field-0))) places
     (heard_accepted g.R.Reading.meaning g.R.Reading.width g.R.Reading.reads (held c.args.participant.now) (held c.hear.new.self) c.args.octets.now
-    c.deref_mut.result.now answers c.in-Ok.count (vec_items c.in_ok-answer_numbers.field-0) told.answer told.held told.answers
-    (c.in_ok-answer_numbers.ensures ∙ ap (λ xs. map answer_number (take c.in-Ok.count xs)) (c.deref.ensures.value ∙ take_at answers _ _ long)))
+    c.deref_mut.result.now answers c.in-Ok.count (vec_items c.in_ok-answer_numbers-in-Ok.field-0) told.answer told.held told.answers
+    (c.in_ok-answer_numbers-in-Ok.ensures ∙ ap (λ xs. map answer_number (take c.in-Ok.count xs)) (c.deref.ensures.value ∙ take_at answers _ _ long)))
 
 pub returns : goal.returns
 returns g c =

@@ -1,8 +1,11 @@
-use Rattle.std.proofs.Common.{◌-◌, take, Some, None}
+use Rattle.std.proofs.Common.{◌-◌, take, Some, None, arith}
 use Rattle.refusal.specs.declared.Refusal.TheVariants.{StrangeReading}
 use Rattle.lines.specs.Digits.{hex_octets_of}
-use Rattle.lamphouse.proofs.HexLaws.{front_of, read_ok, read_err, cell_read}
+use Rattle.lamphouse.proofs.HexLaws.{front_of, read_ok, read_err, cell_read, few_of}
 use Rattle.lamphouse.proofs.parse.OptionParse.parse.Goals as goal
+
+pub slice_bounds-read-end : goal.slice_bounds-read-end
+slice_bounds-read-end g c = omega (arith, few_of 8 c.in_ok-count.count c.args.field.now c.in_ok-count.ensures.count)
 
 pub returns-in-Ok : goal.returns-in-Ok
 returns-in-Ok g c =
