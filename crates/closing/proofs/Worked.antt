@@ -1,10 +1,9 @@
 -- The worked cases, computed.
-use Rattle.std.proofs.Common.{◌≡◌, ℕ, ◌+◌, ◌*◌, ◌%◌, ◌≤◌, Bool, true, false, eqb, ltb, [], Some, Ok, sym, refl, ap, ◌∙◌, arith}
+use Rattle.std.proofs.Common.{◌≡◌, ℕ, ◌+◌, ◌*◌, ◌%◌, ◌≤◌, Bool, true, false, eqb, ltb, [], Some, Ok, refl, arith}
 use Rattle.std.proofs.lemmas.Bool.{le-ltb, ne_eqb}
-use Rattle.closing.specs.declared.types.Phase.{Phase}
 use Rattle.closing.specs.declared.types.Phase.TheVariants.{ToZero, ToOne}
 use Rattle.closing.specs.declared.types.Closed.TheVariants.{Voted}
-use Rattle.closing.specs.Closings.{phase_of, round_phase, item_closed}
+use Rattle.closing.specs.Closings.{phase_of, round_phase}
 use Rattle.closing.specs.Soundings.{Soundings, four_close, two_and_two}
 
 -- the phase of a step from 3 to 302

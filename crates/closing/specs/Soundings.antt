@@ -3,12 +3,10 @@ use Rattle.std.specs.Prelude.{◌≡◌, ℕ, ◌+◌, ◌*◌, ◌≤◌, Bool,
 use Rattle.std.proofs.Common.{lit≤}
 use Rattle.refusal.specs.declared.Refusal.{Refusal}
 use Rattle.reading.specs.declared.bearing.Bearing.{Bearing}
-use Rattle.reading.specs.declared.lamp.Lamp.{Lamp}
 use Rattle.reading.specs.declared.lamp.Lamp.TheVariants.{Flashing, Standby}
 use Rattle.reading.specs.declared.period.Period.{Period}
 use Rattle.reading.specs.Bearings.{bearing_meaning}
 use Rattle.reading.specs.Lamps.{lamp_meaning}
-use Rattle.closing.specs.declared.types.ItemClose.{ItemClose}
 use Rattle.closing.specs.declared.types.Closed.{Closed}
 use Rattle.closing.specs.declared.types.Closed.TheVariants.{Polled, Graded, Voted}
 use Rattle.closing.specs.Counting.{quorum_of, weak_quorum_of}

@@ -7,7 +7,7 @@ use Rattle.refusal.specs.declared.Refusal.{Refusal}
 use Rattle.refusal.specs.declared.Refusal.TheVariants.{StrangeReading}
 use Rattle.wire.specs.declared.message.CellLetter.TheVariants.{Poll}
 use Rattle.wire.specs.declared.message.Letter.TheVariants.{OfCells}
-use Rattle.wire.specs.Items.{all_zero, held, cell_of, cell_at}
+use Rattle.wire.specs.Items.{all_zero, held, cell_of}
 use Rattle.wire.specs.Looks.{cell_answer}
 use Rattle.wire.specs.Messages.{Parts, heading}
 

@@ -1,12 +1,12 @@
 -- Items in octets, and messages that are written from them.
-use Rattle.std.proofs.Common.{◌≡◌, ℕ, ◌+◌, ◌-◌, ◌*◌, ◌<◌, ◌≤◌, min, Bool, true, false, cond, not, ◌||◌, eqb, ltb, List, [], ◌∷◌, ◌++◌, length, get_or, take, drop, Some, None, Ok, Err, Option, Result, sym, refl, ap, ◌∙◌, arith}
+use Rattle.std.proofs.Common.{◌≡◌, ℕ, ◌+◌, ◌-◌, ◌<◌, ◌≤◌, min, Bool, true, false, cond, not, eqb, List, ◌++◌, length, get_or, take, drop, Some, None, Ok, Err, Option, Result, sym, refl, ap, ◌∙◌, arith}
 use Rattle.std.specs.Result.{result_map_both}
 use Rattle.std.proofs.lemmas.List.{at_drop_more, at_drop_all, take_all}
 use Rattle.std.proofs.lemmas.Bool.{lt-ltb, le-ltb, eq-eqb, ne_eqb}
 use Rattle.refusal.specs.declared.Refusal.TheVariants.{Torn, StrangeReading}
 use Rattle.refusal.specs.declared.Fault.{Fault}
 use Rattle.wire.specs.declared.message.Letter.{Letter}
-use Rattle.wire.specs.Faults.{in_message, check, bad_size}
+use Rattle.wire.specs.Faults.{in_message, check}
 use Rattle.wire.specs.Letters.{letter_of}
 use Rattle.wire.specs.Messages.{Contents, message_octets}
 use Rattle.wire.specs.Writes.{contents_answer, written}

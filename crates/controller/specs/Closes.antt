@@ -1,7 +1,7 @@
 -- The closing of one item that a caller asks for: its checks, and the octets that it answers.
 use Rattle.std.specs.Prelude.{ℕ, ◌+◌, ◌/◌, ◌%◌, Bool, cond, not, ◌||◌, List, [], ◌∷◌, ◌++◌, length, is_some, Some, None, Ok, Err, Option, Result, ◌==◌, nat_lt}
 use Rattle.refusal.specs.declared.Refusal.{Refusal}
-use Rattle.refusal.specs.declared.Refusal.TheVariants.{Short, Torn, StrangeLetter, StrangeReading}
+use Rattle.refusal.specs.declared.Refusal.TheVariants.{Torn, StrangeLetter, StrangeReading}
 use Rattle.refusal.specs.Refusals.{refuse, unless, answered}
 use Rattle.reading.specs.Bearings.{bearing_meaning, bearing_octets, bearing_reads}
 use Rattle.reading.specs.Lamps.{lamp_meaning, lamp_octets, lamp_reads}

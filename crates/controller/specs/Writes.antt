@@ -1,5 +1,5 @@
 -- What writing a message answers, and what it leaves in the lent places.
-use Rattle.std.specs.Prelude.{ℕ, ◌+◌, ◌*◌, Bool, cond, not, ◌||◌, List, [], ◌∷◌, map, length, Some, None, Ok, Err, Option, Result, ◌==◌, nat_eq, nat_lt}
+use Rattle.std.specs.Prelude.{ℕ, ◌+◌, ◌*◌, Bool, cond, not, ◌||◌, List, [], ◌∷◌, map, length, Some, None, Err, Option, Result, ◌==◌, nat_eq, nat_lt}
 use Rattle.std.specs.Result.{result_map_both}
 use Rattle.refusal.specs.declared.Refusal.TheVariants.{BadSize, Torn, StrangeLetter, StrangeReading}
 use Rattle.refusal.specs.declared.Fault.{Fault}

@@ -1,5 +1,5 @@
 -- The boards of a new desk: they suffice for all sizes, and blanking them alters nothing.
-use Rattle.std.proofs.Common.{◌≡◌, ℕ, zero, suc, ◌+◌, ◌*◌, ◌<◌, ◌≤◌, Bool, true, false, ◌||◌, eqb, ltb, ◌⊎◌, List, [], ◌∷◌, length, take, set, replicate, Some, None, Ok, Err, vec_items, Option, Result, sym, refl, ap, ◌∙◌, subst, inl, inr, mul-le-mul, arith}
+use Rattle.std.proofs.Common.{◌≡◌, ℕ, zero, suc, ◌*◌, ◌≤◌, false, ◌||◌, ltb, List, [], ◌∷◌, length, take, set, replicate, Some, None, Ok, Err, vec_items, Option, sym, refl, ap, ◌∙◌, subst, inl, inr, mul-le-mul, arith}
 use lib.ListN.{length-replicate}
 use Rattle.std.proofs.lemmas.Bool.{cases_Bool, le-ltb}
 use Rattle.std.proofs.lemmas.Bool.Decides.{nat_tests}
@@ -14,7 +14,7 @@ use Rattle.play.specs.Played.{bad_sizes}
 use Rattle.desk.proofs.Same.{same_held}
 use Rattle.desk.specs.declared.stage.Stage.TheVariants.{Making}
 use Rattle.desk.specs.declared.stage.Desk.{Desk}
-use Rattle.desk.specs.Desks.{Held, held, size_refusal, Makes, new_desk}
+use Rattle.desk.specs.Desks.{size_refusal, Makes}
 
 -- writing an element over a list of it alters nothing
 set_alike : {X : Type 0} (n i : ℕ) (x : X) → set (replicate n x) i x ≡ replicate n x

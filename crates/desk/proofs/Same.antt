@@ -1,5 +1,5 @@
 -- Two views of a desk are the same if their parts are.
-use Rattle.std.proofs.Common.{◌≡◌, ℕ, List, Option, ap, ◌∙◌}
+use Rattle.std.proofs.Common.{◌≡◌, ℕ, List, Option}
 use Rattle.desk.specs.declared.stage.Stage.{Stage}
 use Rattle.desk.specs.Desks.{Held}
 

@@ -1,5 +1,5 @@
 -- What the calls on a desk leave: its boards are always long enough.
-use Rattle.std.proofs.Common.{◌≡◌, ℕ, ◌*◌, ◌≤◌, Bool, true, ◌&&◌, leb, List, length, Some, None, Ok, Option, Result, sym, refl, ap, ◌∙◌, subst, arith}
+use Rattle.std.proofs.Common.{◌≡◌, ℕ, ◌*◌, Bool, true, List, length, Some, None, Ok, Option, Result, refl, ap, ◌∙◌, arith}
 use Rattle.std.proofs.lemmas.Bool.{le-leb}
 use Rattle.refusal.specs.declared.Refusal.{Refusal}
 use Rattle.refusal.specs.Refusals.{answered}
@@ -15,12 +15,11 @@ use Rattle.law.specs.declared.calls.SetupCall.{SetupCall}
 use Rattle.law.specs.declared.calls.Call.{Call}
 use Rattle.law.specs.declared.calls.Call.TheVariants as call
 use Rattle.law.specs.declared.calls.Answer.{Answer}
-use Rattle.law.specs.Runs.{Tosses, Prepared, setup_answer, setup_after, World, Move, refusal, says, effect, answer_of, answered_by, after}
+use Rattle.law.specs.Runs.{Prepared, setup_answer, setup_after, World, refusal, says, effect, answer_of, answered_by, after}
 use Rattle.play.specs.Moves.{Lent, fits_call, move_of, setup_move_of, SetupMade, Made, world_of}
-use Rattle.desk.specs.declared.stage.Stage.{Stage}
 use Rattle.desk.specs.declared.stage.Stage.TheVariants.{Making, Running}
 use Rattle.desk.specs.declared.stage.Reply.{Reply}
-use Rattle.desk.specs.Desks.{Held, done_reply, seen_reply, prepares, prepared, setup_move, with_setup, looks, acts, world, with_world, strip_move}
+use Rattle.desk.specs.Desks.{Held, done_reply, seen_reply, prepares, setup_move, with_setup, looks, acts, world, with_world}
 use Rattle.desk.proofs.Boards.{few_cells, few_pairs}
 
 -- boards of 256 and of 4096 places are long enough

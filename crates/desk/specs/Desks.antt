@@ -11,7 +11,6 @@ use Rattle.board.specs.Tables.{faulty_at}
 use Rattle.board.specs.Looks.{decision_refusal, decision_of}
 use Rattle.agreement.specs.declared.states.Setup.{Setup}
 use Rattle.agreement.specs.declared.states.Instance.{Instance}
-use Rattle.agreement.specs.declared.states.Outcome.{Outcome}
 use Rattle.agreement.specs.Setups.{made, opened}
 use Rattle.coin.specs.Tosses.{strip_toss}
 use Rattle.law.specs.declared.calls.SetupCall.{SetupCall}
@@ -19,7 +18,7 @@ use Rattle.law.specs.declared.calls.Call.{Call}
 use Rattle.law.specs.declared.calls.Call.TheVariants as call
 use Rattle.law.specs.declared.calls.Answer.{Answer}
 use Rattle.law.specs.declared.calls.Answer.TheVariants as answer
-use Rattle.law.specs.Runs.{Tosses, SetupMove, Prepared, setup_answer, setup_after, Move, World, answered_by, after}
+use Rattle.law.specs.Runs.{SetupMove, Prepared, setup_answer, setup_after, Move, World, answered_by, after}
 use Rattle.law.specs.Law.{Sizes}
 use Rattle.play.specs.Played.{bad_sizes}
 use Rattle.console.specs.declared.types.Command.{Command}

@@ -9,7 +9,7 @@ use Rattle.closing.specs.Counting.{mark_of}
 use Rattle.closing.specs.Closings.{closed}
 use Rattle.board.specs.declared.states.Node.{Node}
 use Rattle.board.specs.declared.states.Table.{Table}
-use Rattle.board.specs.Tables.{written, node_at, faulty_at, bit_at, decided_at, final_at, with_nodes, cells_needed, marks_needed, mark_place, value_at}
+use Rattle.board.specs.Tables.{written, node_at, faulty_at, bit_at, decided_at, with_nodes, cells_needed, mark_place, value_at}
 
 -- how node i stands with item c
 abbrev pub item_state : Table → ℕ → ℕ → ItemState

@@ -1,5 +1,5 @@
 -- What the parts of a close are given and do.
-use Rattle.std.specs.Prelude.{ℕ, ◌/◌, ◌%◌, ◌≤◌, Bool, cond, ◌&&◌, List, length, Option, slice_set}
+use Rattle.std.specs.Prelude.{ℕ, ◌≤◌, Bool, ◌&&◌, List, Option, slice_set}
 use Rattle.board.specs.declared.states.Node.{Node}
 use Rattle.board.specs.declared.states.Table.{Table}
 use Rattle.board.specs.Tables.{fits, cells_needed, marks_needed}

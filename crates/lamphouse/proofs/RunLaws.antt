@@ -1,12 +1,12 @@
 -- What a participant hears and sends, as lists of numbers.
-use Rattle.std.proofs.Common.{◌≡◌, ℕ, ◌≤◌, List, ◌++◌, map, length, take, drop, Some, None, Ok, Err, Option, Result, sym, refl, ap, ◌∙◌, arith}
+use Rattle.std.proofs.Common.{◌≡◌, ℕ, ◌≤◌, List, ◌++◌, map, length, take, drop, Some, None, Ok, Err, Option, sym, refl, ap, ◌∙◌, arith}
 use Rattle.std.proofs.lemmas.List.{take_at, length-append, length-map}
 use Rattle.refusal.specs.declared.Refusal.{Refusal}
 use Rattle.refusal.specs.Refusals.{answered}
 use Rattle.board.specs.Setups.{if_accepted}
 use Rattle.law.specs.declared.calls.Answer.{Answer}
 use Rattle.law.specs.declared.calls.Call.{Call}
-use Rattle.law.specs.Runs.{Move, run, history}
+use Rattle.law.specs.Runs.{run, history}
 use Rattle.play.specs.Moves.{call_says}
 use Rattle.play.proofs.Pushes.{length_says}
 use Rattle.participant.specs.Participants.{Held, heard_parts, hear_refusal, heard_calls, strip_move, strip_moves, with_world}

@@ -1,10 +1,9 @@
 -- A line whose parts were all read answers as its closing does.
-use Rattle.std.proofs.Common.{◌≡◌, ℕ, ◌≤◌, Bool, true, false, cond, not, ◌||◌, ltb, List, [], length, drop, Some, Option, sym, refl, ap, ◌∙◌, arith}
+use Rattle.std.proofs.Common.{◌≡◌, ℕ, ◌≤◌, Bool, true, false, cond, not, ltb, List, [], length, drop, Some, Option, sym, refl, ap, ◌∙◌}
 use Rattle.std.proofs.lemmas.Bool.{le-ltb}
 use Rattle.std.specs.List.{slice_get}
 use Rattle.std.specs.Option.{option_map}
 use Rattle.closing.specs.declared.types.ItemClose.{ItemClose}
-use Rattle.lines.specs.Digits.{and_then}
 use Rattle.lamphouse.specs.Grammar.{all_of, cell_of, mark_in, entries_of, close_of, gives_cells, cells_in, marks_in, strip_answer, fields_answer}
 
 module _ {R : Type 0} (meaning : R → ℕ) (reads : List ℕ → Option R) (fs : List (List ℕ)) (a : ItemClose) where

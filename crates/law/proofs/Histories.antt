@@ -8,7 +8,6 @@ use Rattle.refusal.specs.declared.Refusal.TheVariants.{Short, NoNode, NoItem, Fa
 use Rattle.refusal.specs.Refusals.{refuse}
 use Rattle.board.specs.declared.states.Table.{Table}
 use Rattle.board.specs.Tables.{faulty_at, bit_at, decided_at, value_at}
-use Rattle.board.specs.declared.states.Decision.{Decision}
 use Rattle.board.specs.declared.states.Decision.TheVariants.{Undecided, Decided}
 use Rattle.board.specs.Looks.{decision_of}
 use Rattle.agreement.specs.Calls.{is_over}

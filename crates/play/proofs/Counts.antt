@@ -1,5 +1,5 @@
 -- How many items can be undecided, and what a close leaves behind its cells.
-use Rattle.std.proofs.Common.{◌≡◌, ℕ, zero, suc, ◌+◌, ◌*◌, ◌/◌, ◌%◌, ◌<◌, ◌≤◌, ltb, ◌⊎◌, List, drop, Some, None, Option, Result, sym, refl, ap, ◌∙◌, inl, inr, mul-le-mul, add-one, arith}
+use Rattle.std.proofs.Common.{◌≡◌, ℕ, zero, suc, ◌*◌, ◌/◌, ◌%◌, ◌<◌, ◌≤◌, ltb, ◌⊎◌, List, drop, Some, None, Option, Result, sym, refl, ap, ◌∙◌, inl, inr, mul-le-mul, add-one, arith}
 use Rattle.std.proofs.lemmas.List.{drop-drop, drop-set-lt}
 use Rattle.std.proofs.lemmas.List.Sums.{count_by-le-length}
 use Rattle.std.proofs.lemmas.List.FromFn.{length-range_with_len}
@@ -20,7 +20,7 @@ use Rattle.law.specs.declared.calls.Answer.{Answer}
 use Rattle.law.specs.declared.calls.Answer.TheVariants as answer
 use Rattle.law.specs.Runs.{Tosses, World, effect, answer_of}
 use Rattle.board.specs.Setups.{if_accepted}
-use Rattle.play.specs.Moves.{Lent, answer_from, world_of}
+use Rattle.play.specs.Moves.{answer_from}
 
 -- no more than 256 items are undecided
 pub few_undecided : (t : Table) → undecided_count t ≤ 256

@@ -4,7 +4,6 @@ use Rattle.std.proofs.lemmas.Bool.{leb-true, ltb-false, le-ltb}
 use Rattle.refusal.specs.declared.Refusal.{Refusal}
 use Rattle.refusal.specs.declared.Refusal.TheVariants.{BadSize, Short}
 use Rattle.refusal.specs.Refusals.{refuse, answered}
-use Rattle.board.specs.declared.states.Table.{Table}
 use Rattle.agreement.specs.declared.states.Setup.{Setup}
 use Rattle.board.specs.Setups.{make_refusal, blank_values, blank_marks}
 use Rattle.agreement.specs.Setups.{made}
@@ -16,7 +15,7 @@ use Rattle.law.specs.declared.calls.Answer.{Answer}
 use Rattle.law.specs.Runs.{Tosses}
 use Rattle.law.specs.Law.{Sizes}
 use Rattle.play.specs.Moves.{Lent}
-use Rattle.play.specs.Played.{bad_sizes, play_refusal, blanked, Ran, Played, Plays}
+use Rattle.play.specs.Played.{bad_sizes, play_refusal, blanked, Ran, Plays}
 use Rattle.play.proofs.Laws.{lawful}
 
 -- what making a setup refused, and what it made

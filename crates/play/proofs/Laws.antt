@@ -1,19 +1,18 @@
 -- The law of the answers that a script writes.
-use Rattle.std.proofs.Common.{◌≡◌, ℕ, ◌+◌, ◌*◌, ◌<◌, ◌≤◌, Bool, true, false, ◌&&◌, leb, ◌⊎◌, List, [], ◌∷◌, ◌++◌, map, length, drop, replicate, Some, None, Option, sym, refl, ap, ◌∙◌, subst, ap₂, inl, inr, arith}
+use Rattle.std.proofs.Common.{◌≡◌, ℕ, ◌+◌, ◌*◌, ◌<◌, ◌≤◌, Bool, true, false, ◌&&◌, leb, List, [], ◌∷◌, ◌++◌, map, length, drop, replicate, Some, None, Option, sym, refl, ap, ◌∙◌, subst, ap₂, inl, inr, arith}
 use Rattle.std.proofs.lemmas.List.{append-nil, length-append, length-replicate, length-map, drop_at}
 use Rattle.std.proofs.lemmas.Bool.{true≢false, cases_Bool, leb-true, le-leb}
 use Rattle.refusal.specs.declared.Refusal.{Refusal}
 use Rattle.board.specs.declared.states.Table.{Table}
 use Rattle.agreement.specs.declared.states.Instance.{Instance}
 use Rattle.board.specs.Tables.{fits}
-use Rattle.board.specs.Tables.{written}
 use Rattle.board.specs.Setups.{blank_values, blank_marks, if_accepted}
 use Rattle.law.specs.declared.calls.SetupCall.{SetupCall}
 use Rattle.law.specs.declared.calls.Call.{Call}
 use Rattle.law.specs.declared.calls.Call.TheVariants as call
 use Rattle.law.specs.declared.calls.Answer.{Answer}
-use Rattle.law.specs.Runs.{Tosses, Prepared, SetupMove, SetupAsked, setup_after, setup_answer, setup_history, World, Move, Asked, refusal, effect, answered_by, after, run, history, outcome_history}
-use Rattle.law.specs.Law.{Sizes, Boards, Plain, with_coin, asked, setup_asked, faulty_count, Kept, TossesAlike, Delayed}
+use Rattle.law.specs.Runs.{Tosses, Prepared, SetupMove, setup_after, setup_answer, setup_history, World, Move, refusal, effect, answered_by, after, history, outcome_history}
+use Rattle.law.specs.Law.{Sizes, Boards, Plain, with_coin, asked, faulty_count, Kept, TossesAlike, Delayed}
 use Rattle.law.proofs.Lawful.{law}
 use Rattle.law.proofs.Boards.{length_written}
 use Rattle.play.specs.Moves.{Lent, fits_call, move_of, moves_of, setup_move_of, setup_moves_of, setup_says, call_says}

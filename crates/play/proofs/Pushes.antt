@@ -1,5 +1,5 @@
 -- One more call: the run, its answers, and the list that they are written to.
-use Rattle.std.proofs.Common.{◌≡◌, ℕ, suc, ◌+◌, ◌*◌, ◌<◌, ◌≤◌, Bool, true, ◌&&◌, leb, List, [], ◌∷◌, ◌++◌, map, length, get_or, take, drop, set, Some, None, Option, sym, refl, ap, ◌∙◌, ap₂, add-zero, add_assoc, arith}
+use Rattle.std.proofs.Common.{◌≡◌, ℕ, suc, ◌+◌, ◌*◌, ◌<◌, ◌≤◌, List, [], ◌∷◌, ◌++◌, map, length, get_or, take, drop, set, Some, None, Option, sym, refl, ap, ◌∙◌, ap₂, add-zero, add_assoc, arith}
 use Rattle.std.proofs.lemmas.List.{drop_more, drop-drop, drop_at, take_at, set_at, append_assoc, append-nil, take-append-drop, length-append, length-map, length-take-le, map_more, take_all}
 use Rattle.refusal.specs.declared.Refusal.{Refusal}
 use Rattle.board.specs.declared.states.Table.{Table}
@@ -11,7 +11,7 @@ use Rattle.law.specs.declared.calls.SetupCall.TheVariants.{MarkFaulty, Propose}
 use Rattle.law.specs.declared.calls.Call.{Call}
 use Rattle.law.specs.declared.calls.Call.TheVariants as call
 use Rattle.law.specs.declared.calls.Answer.{Answer}
-use Rattle.law.specs.Runs.{Tosses, SetupMove, SetupAsked, Prepared, setup_after, setup_answer, setup_run, setup_history, setup_refusal, setup_effect, Move, World, Asked, refusal, effect, after, answered_by, run, history}
+use Rattle.law.specs.Runs.{Tosses, SetupMove, Prepared, setup_after, setup_answer, setup_run, setup_history, setup_refusal, setup_effect, Move, World, refusal, effect, after, answered_by, run, history}
 use Rattle.board.specs.Setups.{if_accepted}
 use Rattle.play.specs.Played.{made_setup, asked_first, called_setup, first_world, asked_next, Ran}
 use Rattle.play.specs.Moves.{Lent, fits_call, move_of, moves_of, setup_move_of, setup_moves_of, SetupMade, Made, world_of, surplus, setup_says, call_says}

@@ -1,10 +1,10 @@
 -- What is spelled of a lamp is read back, and is one field.
-use Rattle.std.specs.Prelude.{◌≡◌, ℕ, ◌-◌, false, List, [], ◌∷◌, length, take, drop, Some, Option, slice_index, refl}
+use Rattle.std.specs.Prelude.{◌≡◌, ℕ, ◌-◌, List, [], ◌∷◌, length, take, drop, Some, Option, slice_index, refl}
 use Rattle.std.proofs.Common.{sym, ap, ◌∙◌, arith}
 use Rattle.std.proofs.lemmas.List.{take_rest}
 use Rattle.std.specs.Option.{option_map}
 use Rattle.lines.specs.Digits.{and_then}
-use Rattle.lines.specs.Fields.{fields, in_front, is_dash}
+use Rattle.lines.specs.Fields.{fields, in_front}
 use Rattle.reading.specs.declared.lamp.Lamp.{Lamp}
 use Rattle.reading.specs.declared.lamp.Lamp.TheVariants.{Dark, Steady, Flashing, Standby}
 use Rattle.reading.specs.declared.period.Period.{Period}
@@ -12,7 +12,6 @@ use Rattle.reading.specs.Periods.{period_of}
 use Rattle.reading.specs.PeriodLaws.{period_of_tenths}
 use Rattle.spelling.specs.Lamps.{period_in, lamp_of_letter, lamp_in, lamp_text}
 use Rattle.spelling.specs.Numbers.{digits}
-use Rattle.spelling.specs.Words.{word_in}
 use Rattle.spelling.specs.DigitLaws.{digits_field, word_back}
 
 -- a period is read as its tenths are written

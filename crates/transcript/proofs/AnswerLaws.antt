@@ -1,6 +1,5 @@
 -- A line that was parsed and run was answered as it should be.
-use Rattle.std.proofs.Common.{◌≡◌, ℕ, List, Ok, Err, Option, Result, sym, refl, ap, ◌∙◌, subst}
-use Rattle.refusal.specs.declared.Refusal.{Refusal}
+use Rattle.std.proofs.Common.{◌≡◌, ℕ, List, Ok, Err, Option, Result, ap, ◌∙◌, subst}
 use Rattle.refusal.specs.declared.Fault.{Fault}
 use Rattle.spelling.specs.Texts.{Wrote}
 use Rattle.spelling.specs.Answers.{refused_text}

@@ -4,7 +4,7 @@ use Rattle.refusal.specs.declared.Refusal.TheVariants.{Torn}
 use Rattle.lines.specs.Gathered.{held, empty, pushed}
 use Rattle.transcript.specs.declared.types.Harbour.{Harbour}
 use Rattle.transcript.specs.Answers.{Answer, refuses}
-use Rattle.transcript.specs.Runs.{Standing, fresh, standing, seen_as, run_served}
+use Rattle.transcript.specs.Runs.{Standing, standing, seen_as, run_served}
 
 -- A harbour between two octets: the number of the line that is coming in, what has come of it (none: too much), whether anything has, and the run.
 pub record View : Type 0 where

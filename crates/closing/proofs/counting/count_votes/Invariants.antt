@@ -1,4 +1,4 @@
-use Rattle.std.proofs.Common.{◌≡◌, ◌+◌, ◌≤◌, true, false, take}
+use Rattle.std.proofs.Common.{◌≡◌, ◌≤◌, true, false, take}
 use Rattle.closing.specs.Counting.{votes}
 use Rattle.closing.proofs.counting.count_votes.Given as goal
 

@@ -1,4 +1,4 @@
-use Rattle.std.proofs.Common.{◌≡◌, ℕ, List, Result, sym, ap, ◌∙◌}
+use Rattle.std.proofs.Common.{Result, sym, ap, ◌∙◌}
 use Rattle.controller.specs.Answers.{result_number, after}
 use Rattle.controller.specs.Closes.{closed_octets, placing}
 use Rattle.controller.specs.Places.{put_front}

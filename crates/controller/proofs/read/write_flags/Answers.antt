@@ -1,4 +1,4 @@
-use Rattle.std.proofs.Common.{◌≡◌, ◌<◌, length, Err, ap, ◌∙◌, arith}
+use Rattle.std.proofs.Common.{◌<◌, length, Err, ap, ◌∙◌, arith}
 use Rattle.wire.specs.Messages.{parts_of}
 use Rattle.controller.specs.Reads.{items_octets}
 use Rattle.controller.proofs.PlaceLaws.{short_placed}

@@ -1,4 +1,4 @@
-use Rattle.std.proofs.Common.{◌≡◌, ℕ, ◌<◌, Bool, eqb, [], ◌∷◌, ◌++◌, length, get_or, Err, sym, refl, ap, ◌∙◌, arith}
+use Rattle.std.proofs.Common.{ℕ, ◌<◌, Bool, eqb, [], ◌∷◌, ◌++◌, length, get_or, Err, sym, refl, ap, ◌∙◌, arith}
 use Rattle.std.proofs.lemmas.List.{take_all, take_more_set, map_more}
 use Rattle.wire.specs.Reads.{unless_fault}
 use Rattle.controller.specs.Writes.{flag_bits}

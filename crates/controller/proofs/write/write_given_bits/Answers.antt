@@ -1,4 +1,4 @@
-use Rattle.std.proofs.Common.{◌≡◌, ℕ, Bool, List, length, None, sym, ap, ◌∙◌}
+use Rattle.std.proofs.Common.{◌≡◌, Bool, List, length, None, sym, ap, ◌∙◌}
 use Rattle.wire.specs.declared.message.BitLetter.{BitLetter}
 use Rattle.wire.specs.declared.message.Head.{Head}
 use Rattle.wire.specs.Bits.{octets_for}

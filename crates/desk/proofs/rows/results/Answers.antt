@@ -1,4 +1,3 @@
-use Rattle.std.proofs.Common.{◌≡◌, sym, ◌∙◌}
 use Rattle.std.proofs.lemmas.Result.{IfOk-from_err}
 use Rattle.desk.proofs.Results.{begun_none, begun_more, begun_all, begun_to}
 use Rattle.desk.proofs.rows.results.Goals as goal

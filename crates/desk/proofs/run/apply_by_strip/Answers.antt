@@ -1,4 +1,4 @@
-use Rattle.std.proofs.Common.{◌≡◌, ℕ, List, length, subst}
+use Rattle.std.proofs.Common.{ℕ, List, length, subst}
 use Rattle.coin.specs.Tosses.{strip_toss, strip_refusal}
 use Rattle.play.specs.Moves.{Lent, Made, move_of, world_of}
 use Rattle.desk.proofs.Serving.{strip_entries}

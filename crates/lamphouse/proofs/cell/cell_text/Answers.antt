@@ -1,4 +1,4 @@
-use Rattle.std.proofs.Common.{◌≡◌, ℕ, ◌≤◌, List, replicate, Option, sym, ap, ◌∙◌, arith}
+use Rattle.std.proofs.Common.{◌≡◌, replicate, Option, sym, ap, ◌∙◌}
 use Rattle.lamphouse.specs.Texts.{text_octets}
 use Rattle.lamphouse.proofs.HexLaws.{front_placed}
 use Rattle.lamphouse.proofs.cell.cell_text.Goals as goal

@@ -1,4 +1,4 @@
-use Rattle.std.proofs.Common.{◌≡◌, length, replicate, Some, sym, ap, ◌∙◌, arith}
+use Rattle.std.proofs.Common.{replicate, Some, sym, ap, ◌∙◌, arith}
 use Rattle.lines.specs.Digits.{hex_octets_of}
 use Rattle.lamphouse.proofs.HexLaws.{none_came, front_of, few_of}
 use Rattle.lamphouse.proofs.heard.octets_of.Goals as goal

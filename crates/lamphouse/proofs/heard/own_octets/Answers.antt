@@ -1,4 +1,4 @@
-use Rattle.std.proofs.Common.{◌≡◌, length, replicate, Ok, ap, ◌∙◌}
+use Rattle.std.proofs.Common.{length, replicate, Ok, ap, ◌∙◌}
 use Rattle.relay.specs.Own.{own_octets, own_refusal}
 use Rattle.lamphouse.proofs.RunLaws.{placed_front, refused_alike}
 use Rattle.lamphouse.proofs.heard.own_octets.Goals as goal

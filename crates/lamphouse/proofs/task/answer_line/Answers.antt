@@ -1,4 +1,4 @@
-use Rattle.std.proofs.Common.{◌≡◌, ℕ, ◌≤◌, List, length, Some, vec_items, Option, sym, ap, ◌∙◌, arith}
+use Rattle.std.proofs.Common.{◌≤◌, length, vec_items, ◌∙◌, arith}
 use Rattle.lines.specs.Fields.{fields}
 use Rattle.lamphouse.proofs.WholeLine.{whole_line, held_in}
 use Rattle.lamphouse.proofs.task.answer_line.Goals as goal

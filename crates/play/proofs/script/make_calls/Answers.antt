@@ -1,5 +1,4 @@
 use Rattle.std.proofs.Common.{arith}
-use Rattle.play.specs.Moves.{Lent}
 use Rattle.play.proofs.Pushes.{call_none, call_step, call_end}
 use Rattle.play.proofs.script.make_calls.Goals as goal
 

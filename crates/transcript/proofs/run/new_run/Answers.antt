@@ -1,4 +1,4 @@
-use Rattle.std.proofs.Common.{◌≡◌, sym, refl, ap, ◌∙◌, subst}
+use Rattle.std.proofs.Common.{sym, refl, ap, ◌∙◌, subst}
 use Rattle.desk.specs.Desks.{Makes, size_refusal}
 use Rattle.console.specs.declared.types.Kind.TheVariants.{Bearings, Lamps}
 use Rattle.transcript.specs.Runs.{bearings, lamps, made_run}

@@ -1,7 +1,7 @@
-use Rattle.std.proofs.Common.{◌≡◌, length, sym, refl, ap, ◌∙◌, arith}
+use Rattle.std.proofs.Common.{◌≡◌, length, refl, ap, ◌∙◌, arith}
 use Rattle.std.proofs.lemmas.List.{take_at}
 use Rattle.play.specs.Moves.{Lent}
-use Rattle.desk.specs.Desks.{Held, held, on_instance, acts}
+use Rattle.desk.specs.Desks.{held, on_instance, acts}
 use Rattle.desk.proofs.Same.{same_held}
 use Rattle.desk.proofs.Serving.{acted_by}
 use Rattle.desk.proofs.stage.Desk.act.Goals as goal

@@ -1,4 +1,4 @@
-use Rattle.std.proofs.Common.{◌≡◌, sym, ap, ◌∙◌, arith}
+use Rattle.std.proofs.Common.{sym, ap, ◌∙◌, arith}
 use Rattle.desk.specs.Desks.{held, on_table, looks}
 use Rattle.desk.proofs.Serving.{looked}
 use Rattle.desk.proofs.stage.Desk.look.Goals as goal

@@ -1,6 +1,6 @@
 use Rattle.std.proofs.Common.{◌≡◌, length, refl, ap, ◌∙◌, arith}
 use Rattle.std.proofs.lemmas.List.{take_at}
-use Rattle.desk.specs.Desks.{Held, held, on_setup, prepares}
+use Rattle.desk.specs.Desks.{held, on_setup, prepares}
 use Rattle.desk.proofs.Same.{same_held}
 use Rattle.desk.proofs.Serving.{prepared_by}
 use Rattle.desk.proofs.stage.Desk.prepare.Goals as goal
