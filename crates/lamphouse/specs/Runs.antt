@@ -3,7 +3,7 @@ use Rattle.std.specs.Prelude.{◌≡◌, ℕ, not, ◌||◌, List, map, length, 
 use Rattle.std.specs.List.{slice_get}
 use Rattle.std.specs.Option.{ok_or}
 use Rattle.refusal.specs.declared.Refusal.{Refusal}
-use Rattle.refusal.specs.declared.Refusal.TheVariants.{Torn, StrangeReading}
+use Rattle.refusal.specs.declared.Refusal.TheVariants.{Torn, StrangeLetter, StrangeReading}
 use Rattle.refusal.specs.Refusals.{number, refuse, unless, answered}
 use Rattle.board.specs.Setups.{if_accepted}
 use Rattle.law.specs.declared.calls.Answer.{Answer}
@@ -56,9 +56,9 @@ module _ {R : Type 0} where
 abbrev pub heard_octets : List (List ℕ) → Result (List ℕ) Refusal
 heard_octets fs = unless (refuse (not (length fs == 2)) Torn None) (ok_or (and_then (slice_get fs 1) (hex_octets_of 100)) StrangeReading)
 
--- the check of a line that closes a step: it has one field
+-- the check of a line that closes a step: its letter stands alone, and means nothing before more fields
 abbrev pub step_refusal : List (List ℕ) → Option Refusal
-step_refusal fs = refuse (not (length fs == 1)) Torn None
+step_refusal fs = refuse (not (length fs == 1)) StrangeLetter None
 
 -- the number of an answer: that of its refusal, or else 0
 abbrev pub answer_number : {R : Type 0} → Answer R → ℕ

@@ -54,7 +54,7 @@ pub fn step_refusal(line: &[u8]) -> Option<Refusal>
     ensures { result ≡ step_refusal (fields 32 line.now) }
 {
     if count_fields(line, b' ') != 1 {
-        return Some(Refusal::Torn);
+        return Some(Refusal::StrangeLetter);
     }
     None
 }
