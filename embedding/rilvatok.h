@@ -1,7 +1,7 @@
 /*
  * Rilvatok for controllers: one item's closing, and messages read and written.
  *
- * The functions are in libcontroller.a, which `rt staticlib controller` writes. Link it, and the C library for memset.
+ * The functions are in libcontroller.a, which `rt lib` writes in crates/controller. Link it, and the C library for memset and memmove.
  *
  * For every function:
  * - It answers a number: 0 where it was carried out, else the refusal's, one of enum rilvatok_refusal. rilvatok_refusal_word answers a length.

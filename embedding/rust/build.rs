@@ -1,4 +1,4 @@
-//! Says where the static library is: in the folder that RILVATOK_LIB names, or where `rt staticlib controller` writes it.
+//! Says where the static library is: in the folder that RILVATOK_LIB names, or where `rt lib` writes it in `crates/controller`.
 use std::env;
 use std::path::PathBuf;
 
@@ -7,7 +7,7 @@ fn main() {
     let folder = match env::var_os("RILVATOK_LIB") {
         Some(folder) => PathBuf::from(folder),
         None => {
-            PathBuf::from(env::var_os("CARGO_MANIFEST_DIR").unwrap()).join("../../target/staticlib")
+            PathBuf::from(env::var_os("CARGO_MANIFEST_DIR").unwrap()).join("../../crates/controller/out")
         }
     };
     println!(
