@@ -2,10 +2,11 @@
 #![tactic(auto)]
 
 use std::io::{Read, Write};
+use std::process::ExitCode;
 use transcript::Harbour;
 
 // Reads what there is, answers the lines in it, and writes their answers before it waits for more.
-fn main(rt: HostRuntime) -> anyhow::Result<()> {
+fn run(rt: &HostRuntime) -> anyhow::Result<()> {
     let heap = rt.alloc();
     let mut stdin = rt.stdin();
     let mut harbour = Harbour::new();
@@ -23,4 +24,12 @@ fn main(rt: HostRuntime) -> anyhow::Result<()> {
     harbour.finish(heap, &mut text)?;
     rt.stdout().write_all(&text)?;
     Ok(())
+}
+
+// A run that could not read or write ends with status 1, and says nothing.
+fn main(rt: HostRuntime) -> ExitCode {
+    match run(&rt) {
+        Ok(()) => ExitCode::SUCCESS,
+        Err(_) => ExitCode::FAILURE,
+    }
 }
