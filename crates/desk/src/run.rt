@@ -60,7 +60,7 @@ fn apply_by_strip<R: Reading>(
     marks: &mut [u8],
 ) -> Answer<R>
     requires { (1 ≤ length entries.now) × (length entries.now ≤ 8) }
-    ensures { Made R.Reading.meaning (move_of instance.old.table.n instance.old.table.m (record { values = values.entry.now; scratch = scratch.old; sent = sent.old; marks = marks.old }) (λ node round item. strip_toss entries.now round item) call.now) (world_of instance.old (record { values = values.entry.now; scratch = scratch.old; sent = sent.old; marks = marks.old })) (world_of instance.new (record { values = values.exit.now; scratch = scratch.new; sent = sent.new; marks = marks.new })) result }
+    ensures { Made R.Reading.meaning (move_of instance.old.table.n instance.old.table.m (record { values = values.old; scratch = scratch.old; sent = sent.old; marks = marks.old }) (λ node round item. strip_toss entries.now round item) call.now) (world_of instance.old (record { values = values.old; scratch = scratch.old; sent = sent.old; marks = marks.old })) (world_of instance.new (record { values = values.new; scratch = scratch.new; sent = sent.new; marks = marks.new })) result }
 {
     match Strip::new(entries) {
         Ok(strip) => apply(instance, call, &strip, values, scratch, sent, marks),

@@ -77,7 +77,7 @@ fn apply_close<R: Reading, C: Coin>(
     sent: &mut [Option<R>],
     marks: &mut [u8],
 ) -> Answer<R>
-    ensures made { Made R.Reading.meaning (move_of instance.old.table.n instance.old.table.m (record { values = values.entry.now; scratch = scratch.old; sent = sent.old; marks = marks.old }) (C.Coin.tosses coin.now) Close) (world_of instance.old (record { values = values.entry.now; scratch = scratch.old; sent = sent.old; marks = marks.old })) (world_of instance.new (record { values = values.exit.now; scratch = scratch.new; sent = sent.new; marks = marks.new })) result }
+    ensures made { Made R.Reading.meaning (move_of instance.old.table.n instance.old.table.m (record { values = values.old; scratch = scratch.old; sent = sent.old; marks = marks.old }) (C.Coin.tosses coin.now) Close) (world_of instance.old (record { values = values.old; scratch = scratch.old; sent = sent.old; marks = marks.old })) (world_of instance.new (record { values = values.new; scratch = scratch.new; sent = sent.new; marks = marks.new })) result }
     ensures rest { drop (cells_needed instance.old.table) scratch.new ≡ drop (cells_needed instance.old.table) scratch.old }
 {
     done(instance.close(coin, values, scratch, sent, marks))
@@ -93,7 +93,7 @@ pub fn apply<R: Reading, C: Coin>(
     sent: &mut [Option<R>],
     marks: &mut [u8],
 ) -> Answer<R>
-    ensures made { Made R.Reading.meaning (move_of instance.old.table.n instance.old.table.m (record { values = values.entry.now; scratch = scratch.old; sent = sent.old; marks = marks.old }) (C.Coin.tosses coin.now) call.now) (world_of instance.old (record { values = values.entry.now; scratch = scratch.old; sent = sent.old; marks = marks.old })) (world_of instance.new (record { values = values.exit.now; scratch = scratch.new; sent = sent.new; marks = marks.new })) result }
+    ensures made { Made R.Reading.meaning (move_of instance.old.table.n instance.old.table.m (record { values = values.old; scratch = scratch.old; sent = sent.old; marks = marks.old }) (C.Coin.tosses coin.now) call.now) (world_of instance.old (record { values = values.old; scratch = scratch.old; sent = sent.old; marks = marks.old })) (world_of instance.new (record { values = values.new; scratch = scratch.new; sent = sent.new; marks = marks.new })) result }
     ensures rest { drop (cells_needed instance.old.table) scratch.new ≡ drop (cells_needed instance.old.table) scratch.old }
 {
     match *call {

@@ -44,7 +44,7 @@ pub fn play<R: Reading, C: Coin>(
     answers: &mut [Answer<R>],
 ) -> Result<usize, Refusal>
     ensures answer { result ≡ answered (play_refusal n m (length values.old) (length marks.old) (length setup.now + length calls.now) (length answers.old)) (length setup.now + length calls.now) }
-    ensures plays { Plays R.Reading.meaning (C.Coin.tosses coin.now) n m setup.now calls.now (play_refusal n m (length values.entry.now) (length marks.old) (length setup.now + length calls.now) (length answers.old)) (record { values = values.entry.now; scratch = scratch.old; sent = sent.old; marks = marks.old }) (record { values = values.exit.now; scratch = scratch.new; sent = sent.new; marks = marks.new }) answers.old answers.new }
+    ensures plays { Plays R.Reading.meaning (C.Coin.tosses coin.now) n m setup.now calls.now (play_refusal n m (length values.old) (length marks.old) (length setup.now + length calls.now) (length answers.old)) (record { values = values.old; scratch = scratch.old; sent = sent.old; marks = marks.old }) (record { values = values.new; scratch = scratch.new; sent = sent.new; marks = marks.new }) answers.old answers.new }
 {
     if bad_sizes(n, m) {
         return Err(Refusal::BadSize);

@@ -49,8 +49,8 @@ pub fn make_calls<R: Reading, C: Coin>(
     answers: &mut [Answer<R>],
 )
     requires { start + length calls.now ≤ length answers.old }
-    ensures world { world_of instance.new (record { values = values.exit.now; scratch = scratch.new; sent = sent.new; marks = marks.new }) ≡ run R.Reading.meaning (world_of instance.old (record { values = values.entry.now; scratch = scratch.old; sent = sent.old; marks = marks.old })) (moves_of instance.old.table.n instance.old.table.m (record { values = values.entry.now; scratch = scratch.old; sent = sent.old; marks = marks.old }) (C.Coin.tosses coin.now) calls.now) }
-    ensures answers { answers.new ≡ (take start answers.old ++ call_says (history R.Reading.meaning (world_of instance.old (record { values = values.entry.now; scratch = scratch.old; sent = sent.old; marks = marks.old })) (moves_of instance.old.table.n instance.old.table.m (record { values = values.entry.now; scratch = scratch.old; sent = sent.old; marks = marks.old }) (C.Coin.tosses coin.now) calls.now))) ++ drop (start + length calls.now) answers.old }
+    ensures world { world_of instance.new (record { values = values.new; scratch = scratch.new; sent = sent.new; marks = marks.new }) ≡ run R.Reading.meaning (world_of instance.old (record { values = values.old; scratch = scratch.old; sent = sent.old; marks = marks.old })) (moves_of instance.old.table.n instance.old.table.m (record { values = values.old; scratch = scratch.old; sent = sent.old; marks = marks.old }) (C.Coin.tosses coin.now) calls.now) }
+    ensures answers { answers.new ≡ (take start answers.old ++ call_says (history R.Reading.meaning (world_of instance.old (record { values = values.old; scratch = scratch.old; sent = sent.old; marks = marks.old })) (moves_of instance.old.table.n instance.old.table.m (record { values = values.old; scratch = scratch.old; sent = sent.old; marks = marks.old }) (C.Coin.tosses coin.now) calls.now))) ++ drop (start + length calls.now) answers.old }
     ensures rest { drop (cells_needed instance.old.table) scratch.new ≡ drop (cells_needed instance.old.table) scratch.old }
 {
     for k in 0..calls.len() {
@@ -72,7 +72,7 @@ pub fn run_script<R: Reading, C: Coin>(
     answers: &mut [Answer<R>],
 )
     requires { length first.now + length next.now ≤ length answers.old }
-    ensures { Ran R.Reading.meaning (C.Coin.tosses coin.now) setup.table (record { values = values.entry.now; scratch = scratch.old; sent = sent.old; marks = marks.old }) first.now next.now (record { values = values.exit.now; scratch = scratch.new; sent = sent.new; marks = marks.new }) answers.old answers.new }
+    ensures { Ran R.Reading.meaning (C.Coin.tosses coin.now) setup.table (record { values = values.old; scratch = scratch.old; sent = sent.old; marks = marks.old }) first.now next.now (record { values = values.new; scratch = scratch.new; sent = sent.new; marks = marks.new }) answers.old answers.new }
 {
     make_setup_calls(&mut setup, first, values, answers);
     let mut instance = setup.open();
