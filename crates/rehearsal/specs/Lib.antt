@@ -1,2 +1,3 @@
 pub mod Cells
+pub mod Random
 pub mod Scripts
