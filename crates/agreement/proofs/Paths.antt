@@ -1,14 +1,14 @@
 -- What a call answers and leaves, where it is accepted and where it is refused.
-use Rattle.std.proofs.Common.{◌≡◌, ℕ, ◌<◌, ◌≤◌, Bool, true, false, not, leb, List, length, Some, None, Ok, Err, Option, Result, ap}
-use Rattle.std.proofs.lemmas.Bool.{le-leb, lt-leb}
+use Rattle.std.proofs.Common.{◌≡◌, ℕ, ◌≤◌, true, not, leb, List, length, Some, None, Ok, Err, Option, Result, ap}
+use Rattle.std.proofs.lemmas.Bool.{le-leb}
 use Rattle.refusal.specs.declared.Refusal.{Refusal}
-use Rattle.refusal.specs.declared.Refusal.TheVariants.{Short}
+use Rattle.refusal.specs.Refusals.{answered}
 use Rattle.closing.specs.Closings.{sends_cells}
 use Rattle.board.specs.Tables.{marks_needed}
 use Rattle.board.specs.declared.states.Table.{Table}
 use Rattle.board.specs.Setups as board
 use Rattle.board.proofs.Paths.{table_path}
-use Rattle.agreement.specs.Calls.{is_over, send_checks, close_refusal}
+use Rattle.agreement.specs.Calls.{send_checks}
 use Rattle.agreement.specs.Setups.{Makes}
 use Rattle.agreement.specs.Effects.{value_refusal}
 use Rattle.agreement.specs.declared.states.Setup.{Setup}
@@ -28,17 +28,15 @@ value_on s sent marks i j c k a b e =
     let g : leb (marks_needed s.table) (length marks) ≡ true = le-leb _ _ b in
     rw (f, g) e
 
--- the marks board is short
-pub value_short : {R : Type 0} (s : Instance) (sent : List (Option R)) (marks : List ℕ) (i j c : ℕ)
-    → marks_needed s.table ≤ length sent → length marks < marks_needed s.table → value_refusal s sent marks i j c ≡ Some Short
-value_short s sent marks i j c a b =
-    let f : leb (marks_needed s.table) (length sent) ≡ true = le-leb _ _ a in
-    let g : leb (marks_needed s.table) (length marks) ≡ false = lt-leb _ _ b in
-    rw (f, g)
+-- the refusal that an answer carries
+abbrev err_of : Result (Unit {0}) Refusal → Option Refusal
+err_of (Ok x) = None
+err_of (Err e) = Some e
 
--- a close that nothing refuses
-pub close_on : (s : Instance) (fit : Bool) → fit ≡ true → is_over s ≡ false → close_refusal s fit ≡ None
-close_on s fit a b = rw (a, b)
+-- an answer that is a refusal names it
+pub refused_as : (k : Option Refusal) (e : Refusal) → ◌≡◌ {A = Result (Unit {0}) Refusal} (answered k tt) (Err e) → k ≡ Some e
+refused_as None e h = ap err_of h
+refused_as (Some f) e h = ap err_of h
 
 -- a setup holds the table that was made
 abbrev as_setup : Result Table Refusal → Result Setup Refusal

@@ -29,6 +29,7 @@ impl Instance {
     }
 
     // Closes the step: each honest node closes each item on what was sent before the close.
+    // Each board is lent by itself, here as in every call: most calls need one or two of the four.
     pub fn close<R: Reading, C: Coin>(
         &mut self,
         coin: &C,

@@ -37,6 +37,7 @@ impl Instance {
     }
 }
 
+// An instance and an outcome each ask their table: a trait for the two would state the same clause a third time.
 impl Outcome {
     // What an honest node had decided of an item when the run ended.
     pub fn decision<R: Copy>(

@@ -53,11 +53,7 @@ impl Instance {
     pub fn end(self) -> Outcome
         ensures { result ≡ record { table = self.table } }
     {
-        let Instance {
-            table,
-            phase: _,
-            round: _,
-        } = self;
+        let Instance { table, .. } = self;
         Outcome { table }
     }
 }

@@ -1,5 +1,5 @@
 //! What the faulty nodes send.
-ghost use Rattle.std.specs.Prelude.{◌≡◌, ◌*◌, ◌<◌, ◌≤◌, length, Some, None, ◌==◌};
+ghost use Rattle.std.specs.Prelude.{◌≡◌, ◌*◌, ◌<◌, ◌≤◌, length, Ok, Err, ◌==◌};
 ghost use Rattle.agreement.specs.Calls.{is_over, send_checks, send_final_refusal, sent_after, final_after};
 ghost use Rattle.agreement.specs.Effects.{value_refusal, bit_refusal};
 ghost use Rattle.board.specs.Setups.{if_accepted};
@@ -10,6 +10,7 @@ ghost use Rattle.refusal.specs.Refusals.{answered};
 use super::phase::advance;
 use super::states::{Event, Instance};
 use board::Grid;
+use closing::Mark;
 use refusal::Refusal;
 
 impl Instance {
@@ -20,24 +21,24 @@ impl Instance {
         self.round > 100 || !self.table.any_undecided()
     }
 
-    // The first check of a send that hits, but for its boards; `wrong` is whether it is of the wrong side, or of a bit above 1.
-    fn send_refusal<'a>(
+    // The checks of a send, but for its boards; `wrong` is whether it is of the wrong side, or of a bit above 1.
+    fn check_send<'a>(
         &self,
         flags: &Grid<'a, u8>,
         wrong: bool,
         sender: usize,
         receiver: usize,
         item: usize,
-    ) -> Option<Refusal>
+    ) -> Result<(), Refusal>
         requires room { marks_needed self.now.table ≤ length flags.now.cells.now }
         requires shape { (flags.now.rows ≡ self.now.table.n * self.now.table.n) × (flags.now.width ≡ self.now.table.m) }
-        ensures is { result ≡ send_checks self.now flags.now.cells.now wrong sender receiver item }
-        ensures within { elim result [ None ↦ (sender < self.now.table.n) × (receiver < self.now.table.n) × (item < self.now.table.m) | Some e ↦ Unit {0} ] }
+        ensures is { result ≡ answered (send_checks self.now flags.now.cells.now wrong sender receiver item) tt }
+        ensures within { elim result [ Ok _ ↦ (sender < self.now.table.n) × (receiver < self.now.table.n) × (item < self.now.table.m) | Err e ↦ Unit {0} ] }
     {
         let cells = self.phase.sends_cells();
         let over = self.is_over();
         self.table
-            .send_refusal(flags, cells, over, wrong, sender, receiver, item)
+            .check_send(flags, cells, over, wrong, sender, receiver, item)
     }
 
     // Sends a faulty sender's cell for one receiver and item.
@@ -56,20 +57,15 @@ impl Instance {
         ensures state { self.new ≡ self.old }
     {
         let needed = self.table.marks_needed();
-        if sent.len() < needed {
-            return Err(Refusal::Short);
-        }
-        if marks.len() < needed {
+        if sent.len() < needed || marks.len() < needed {
             return Err(Refusal::Short);
         }
         let rows = self.table.n * self.table.n;
         let mut flags = Grid::new(marks, rows, self.table.m);
         let wrong = !self.phase.sends_cells();
-        if let Some(refusal) = self.send_refusal(&flags, wrong, sender, receiver, item) {
-            return Err(refusal);
-        }
+        self.check_send(&flags, wrong, sender, receiver, item)?;
         let row = self.table.row(sender, receiver);
-        flags.put(row, item, 1);
+        flags.put(row, item, Mark::Cell.octet());
         let mut cells = Grid::new(sent, rows, self.table.m);
         cells.put(row, item, cell);
         advance(&mut self.phase, Event::Send);
@@ -94,11 +90,9 @@ impl Instance {
         }
         let mut flags = Grid::new(marks, self.table.n * self.table.n, self.table.m);
         let wrong = self.phase.sends_cells() || bit > 1;
-        if let Some(refusal) = self.send_refusal(&flags, wrong, sender, receiver, item) {
-            return Err(refusal);
-        }
+        self.check_send(&flags, wrong, sender, receiver, item)?;
         let row = self.table.row(sender, receiver);
-        flags.put(row, item, if bit == 1 { 3 } else { 2 });
+        flags.put(row, item, Mark::of_bit(bit == 1).octet());
         advance(&mut self.phase, Event::Send);
         Ok(())
     }

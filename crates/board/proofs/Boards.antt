@@ -1,10 +1,11 @@
 -- Boards that are written place by place.
-use Rattle.std.proofs.Common.{◌≡◌, ℕ, zero, suc, ◌+◌, ◌<◌, ◌≤◌, Bool, cond, List, [], ◌∷◌, ◌++◌, map, length, get_or, set, count_by, sym, refl, ap, ◌∙◌, ⊎_elim, add-one, arith}
-use Rattle.std.specs.List.{range_with_len}
-use Rattle.std.proofs.lemmas.List.Sums.{sum_by_push}
+use Rattle.std.proofs.Common.{◌≡◌, ℕ, zero, suc, ◌+◌, ◌<◌, ◌≤◌, Bool, cond, not, ◌||◌, eqb, List, [], ◌∷◌, ◌++◌, map, length, get_or, take, drop, set, count_by, sum_by, sym, refl, ap, ◌∙◌, ⊎_elim, add-one, arith}
+use Rattle.std.specs.List.{range_with_len, list_any}
+use Rattle.std.proofs.lemmas.List.Sums.{sum_by_push, sum_by_more, sum_by-cons}
 use Rattle.std.proofs.lemmas.List.FromFn.{length-map-range_with_len, map-range_with_len_more}
-use Rattle.std.proofs.lemmas.List.{map-id, get_or_past, get_or-set_same, get_or-set_other, length-set}
+use Rattle.std.proofs.lemmas.List.{map-id, get_or_past, get_or-set_same, get_or-set_other, set-append_left, take-append-drop, length-take, length-set}
 use Rattle.std.proofs.lemmas.Bool.{cases_eq}
+use Rattle.std.proofs.lemmas.Bool.Decides.{nat_tests}
 use Rattle.board.specs.Tables.{written}
 
 -- nothing stands past a list by index
@@ -48,3 +49,39 @@ counting_more k =
 -- one more number: counted where it passes
 pub count_more : (p : ℕ → Bool) (k : ℕ) → count_by p (range_with_len 0 (k + 1)) ≡ count_by p (range_with_len 0 k) + cond (p k) 1 0
 count_more p k = ap (count_by p) (counting_more k) ∙ sum_by_push (λ x. cond (p x) 1 0) (range_with_len 0 k) k
+
+-- a board whose front is written: the front is written, and the rest stays
+pub written_append : {X : Type 0} (n : ℕ) (f : ℕ → X) (xs ys : List X) → n ≤ length xs → written n f (xs ++ ys) ≡ written n f xs ++ ys
+written_append zero f xs ys h = refl
+written_append (suc n) f xs ys h =
+    ap (λ zs. set zs n (f n)) (written_append n f xs ys (omega arith))
+    ∙ set-append_left (written n f xs) ys n (f n) (let q : n < length (written n f xs) = omega (arith, length_written n f xs) in q)
+
+pub written_front : {X : Type 0} (n : ℕ) (f : ℕ → X) (xs : List X) → n ≤ length xs → written n f (take n xs) ++ drop n xs ≡ written n f xs
+written_front n f xs h =
+    sym (written_append n f (take n xs) (drop n xs) (omega (arith, length-take n xs))) ∙ ap (written n f) (take-append-drop n xs)
+
+-- what is counted by index is counted element by element
+pub count_front : {X : Type 0} (p : X → Bool) (xs : List X) (d : X) (k : ℕ) → k ≤ length xs → count_by (λ c. p (get_or xs c d)) (range_with_len 0 k) ≡ count_by p (take k xs)
+count_front p xs d zero h = refl
+count_front p xs d (suc k) h =
+    omega (
+      arith,
+      ap (λ i. count_by (λ c. p (get_or xs c d)) (range_with_len 0 i)) (add-one k),
+      count_more (λ c. p (get_or xs c d)) k,
+      count_front p xs d k (omega arith),
+      sum_by_more (λ x. cond (p x) 1 0) xs k d (omega arith),
+      ap (λ i. count_by p (take i xs)) (add-one k),
+    )
+
+-- some element passes just where the sum is not 0
+pub any_sum : {X : Type 0} (p : X → Bool) (f : X → ℕ) (xs : List X) → ((x : X) → p x ≡ not (eqb (f x) 0)) → list_any p xs ≡ not (eqb (sum_by f xs) 0)
+any_sum p f [] h = refl
+any_sum p f (x ∷ xs) h =
+    ap (λ b. p x || b) (any_sum p f xs h)
+    ∙ ap (λ b. b || not (eqb (sum_by f xs) 0)) (h x)
+    ∙ either (f x) (sum_by f xs)
+    ∙ ap (λ k. not (eqb k 0)) (sym (sum_by-cons f x xs))
+  where
+    either : (a b : ℕ) → (not (eqb a 0) || not (eqb b 0)) ≡ not (eqb (a + b) 0)
+    either a b = grind (arith, nat_tests)

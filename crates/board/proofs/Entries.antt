@@ -15,6 +15,16 @@ use Rattle.board.proofs.Boards.{count_more}
 abbrev pub open_at : Table → ℕ → Bool
 open_at t k = undecided_at t (k / t.m) (k % t.m)
 
+-- the same of the pair of node i and item c
+pub open_pair : (t : Table) (i c : ℕ) → c < t.m → open_at t (i * t.m + c) ≡ undecided_at t i c
+open_pair t i c h =
+    ap (λ j. undecided_at t j ((i * t.m + c) % t.m)) (div-mul-add i t.m c h) ∙ ap (λ j. undecided_at t i j) (mod-mul-add i t.m c h)
+
+-- the number that stands for that pair
+pub entry_pair : (t : Table) (i c : ℕ) → c < t.m → entry_of ((i * t.m + c) / t.m) ((i * t.m + c) % t.m) ≡ entry_of i c
+entry_pair t i c h =
+    ap (λ j. entry_of j ((i * t.m + c) % t.m)) (div-mul-add i t.m c h) ∙ ap (λ j. entry_of i j) (mod-mul-add i t.m c h)
+
 -- a front that grows by one element
 pub front_more : {X : Type 0} (p xs : List X) (i : ℕ) (v : X) → length p ≡ i → i < length xs → set (p ++ drop i xs) i v ≡ (p ++ v ∷ []) ++ drop (i + 1) xs
 front_more p xs i v l h =

@@ -8,13 +8,17 @@ use Rattle.board.specs.declared.states.Decision.{Decision}
 use Rattle.board.specs.declared.states.Decision.TheVariants.{Undecided, Decided}
 use Rattle.board.specs.Tables.{faulty_at, bit_at, decided_at, value_at}
 
--- the checks of asking for a decision
-abbrev pub decision_refusal : Table → Bool → ℕ → ℕ → Option Refusal
-decision_refusal t fits node item =
+-- the checks of an honest node and an item; `fits` is whether the values board is long enough
+abbrev pub pair_refusal : Table → Bool → ℕ → ℕ → Option Refusal
+pair_refusal t fits node item =
     refuse (not fits) Short
     (refuse (nat_le t.n node) NoNode
     (refuse (nat_le t.m item) NoItem
     (refuse (faulty_at t node) FaultyNode None)))
+
+-- the checks of asking for a decision
+abbrev pub decision_refusal : Table → Bool → ℕ → ℕ → Option Refusal
+decision_refusal t fits node item = pair_refusal t fits node item
 
 -- a node's decision of an item: none for bit 1, the own value for bit 0
 abbrev pub decision_of : {R : Type 0} → Table → List (Option R) → ℕ → ℕ → Decision R

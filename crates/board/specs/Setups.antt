@@ -1,10 +1,11 @@
 -- Making a table with its boards, and giving the nodes their first cells. A call that is refused alters nothing.
-use Rattle.std.specs.Prelude.{◌≡◌, ℕ, ◌*◌, ◌≤◌, Bool, not, ◌||◌, List, replicate, Some, None, Ok, Err, Option, Result, ◌==◌, nat_le, nat_lt}
+use Rattle.std.specs.Prelude.{◌≡◌, ℕ, ◌*◌, ◌≤◌, Bool, ◌||◌, List, replicate, Some, None, Ok, Err, Option, Result, ◌==◌, nat_lt}
 use Rattle.refusal.specs.declared.Refusal.{Refusal}
-use Rattle.refusal.specs.declared.Refusal.TheVariants.{BadSize, Short, NoNode, NoItem, FaultyNode}
+use Rattle.refusal.specs.declared.Refusal.TheVariants.{BadSize, Short}
 use Rattle.refusal.specs.Refusals.{refuse}
 use Rattle.board.specs.declared.states.Table.{Table}
-use Rattle.board.specs.Tables.{written, new_node, faulty_at}
+use Rattle.board.specs.Looks.{pair_refusal}
+use Rattle.board.specs.Tables.{written, new_node}
 
 -- what stands after a call: the new where nothing refuses it, else the old
 abbrev pub if_accepted : {X : Type 0} → Option Refusal → X → X → X
@@ -35,8 +36,4 @@ blank_marks n m marks = written (n * n * m) (λ _. 0) marks
 
 -- the checks of a proposal; `fits` is whether the values board is long enough
 abbrev pub propose_refusal : Table → Bool → ℕ → ℕ → Option Refusal
-propose_refusal t fits node item =
-    refuse (not fits) Short
-    (refuse (nat_le t.n node) NoNode
-    (refuse (nat_le t.m item) NoItem
-    (refuse (faulty_at t node) FaultyNode None)))
+propose_refusal t fits node item = pair_refusal t fits node item

@@ -66,9 +66,13 @@ value_at t values i c = slice_index_or values (cell_place t i c) None
 abbrev pub undecided_at : Table → ℕ → ℕ → Bool
 undecided_at t i c = not (faulty_at t i) && not (decided_at t i c)
 
+-- how many of the first items are undecided at a node, which is honest
+abbrev pub undecided_in : Node → ℕ → ℕ
+undecided_in x items = count_by (λ c. not x.faulty && not (slice_index_or x.decided c false)) (range_with_len 0 items)
+
 -- how many of the first items are undecided at node i, which is honest
 abbrev pub undecided_of : Table → ℕ → ℕ → ℕ
-undecided_of t i items = count_by (undecided_at t i) (range_with_len 0 items)
+undecided_of t i items = undecided_in (node_at t i) items
 
 -- how many items of honest nodes are undecided
 abbrev pub undecided_count : Table → ℕ

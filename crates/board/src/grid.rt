@@ -2,13 +2,13 @@
 ghost use Rattle.std.specs.Prelude.{◌≡◌, ◌+◌, ◌*◌, ◌<◌, ◌≤◌, length, slice_index_or, slice_set};
 ghost use Rattle.board.specs.Tables.{written};
 
-// Writes v over the first `count` elements.
+// Writes v over the first `count` elements. The slice's own `fill` wants a clone that cannot fail, which a `Copy` element does not promise.
 fn fill_front<T: Copy>(cells: &mut [T], count: usize, v: T)
     requires { count ≤ length cells.old }
     ensures { cells.new ≡ written count (λ _. v) cells.old }
 {
-    for i in 0..count {
-        cells[i] = v;
+    for cell in &mut cells[..count] {
+        *cell = v;
     }
 }
 

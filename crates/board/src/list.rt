@@ -11,13 +11,14 @@ impl Table {
         requires { undecided_count self.now ≤ length list.old }
         ensures { list.new ≡ entries self.now (cells_needed self.now) ++ drop (undecided_count self.now) list.old }
     {
+        // The place is kept by hand: only some pairs go on the list, and of what is written through `zip` with `iter_mut` nothing would be known.
         let mut count = 0;
-        for k in 0..self.cells_needed() {
-            let node = k / self.m;
-            let item = k % self.m;
-            if self.is_undecided(node, item) {
-                list[count] = node * 16 + item;
-                count += 1;
+        for node in 0..self.n {
+            for item in 0..self.m {
+                if self.is_undecided(node, item) {
+                    list[count] = node * 16 + item;
+                    count += 1;
+                }
             }
         }
     }

@@ -3,6 +3,7 @@ ghost use Rattle.std.specs.Prelude.{◌≡◌, ◌<◌, ◌≤◌, length};
 ghost use Rattle.board.specs.Tables.{marks_needed, mark_kept, marks_after};
 
 use super::states::Table;
+use closing::Mark;
 
 impl Table {
     // The mark at place k after a close.
@@ -14,18 +15,18 @@ impl Table {
         if self.is_final(row / self.n, row % self.n) {
             mark
         } else {
-            0
+            Mark::Nothing.octet()
         }
     }
 
-    // Sets the marks to 0, but for those that are final.
+    // Sets the marks to Nothing, 0, but for those that are final.
     pub fn clear_marks(&self, marks: &mut [u8])
         requires { marks_needed self.now ≤ length marks.old }
         ensures { marks.new ≡ marks_after self.now marks.old }
     {
-        for k in 0..self.marks_needed() {
-            let mark = self.next_mark(marks[k], k);
-            marks[k] = mark;
+        let used = &mut marks[..self.marks_needed()];
+        for (k, mark) in used.iter_mut().enumerate() {
+            *mark = self.next_mark(*mark, k);
         }
     }
 }

@@ -6,6 +6,7 @@ ghost use Rattle.refusal.specs.Refusals.{answered};
 
 use super::grid::Grid;
 use super::states::{Node, Table};
+use closing::Mark;
 use refusal::Refusal;
 
 impl Table {
@@ -20,7 +21,7 @@ impl Table {
         ensures values { values.new ≡ if_accepted (make_refusal n m (length values.old) (length marks.old)) (blank_values n m values.old) values.old }
         ensures marks { marks.new ≡ if_accepted (make_refusal n m (length values.old) (length marks.old)) (blank_marks n m marks.old) marks.old }
     {
-        if n == 0 || n > 16 || m == 0 || m > 16 {
+        if !(1..=16).contains(&n) || !(1..=16).contains(&m) {
             return Err(Refusal::BadSize);
         }
         if values.len() < n * m || marks.len() < n * n * m {
@@ -29,8 +30,9 @@ impl Table {
         let mut cells = Grid::new(values, n, m);
         cells.fill(None);
         let mut flags = Grid::new(marks, n * n, m);
-        flags.fill(0);
-        let nodes = [Node::new(); 16];
+        flags.fill(Mark::Nothing.octet());
+        let node = Node::default();
+        let nodes = [node; 16];
         Ok(Table { n, m, nodes })
     }
 
@@ -45,18 +47,7 @@ impl Table {
         ensures answer { result ≡ answered (propose_refusal self.now (fits (cells_needed self.now) values.old) node item) tt }
         ensures values { values.new ≡ if_accepted (propose_refusal self.now (fits (cells_needed self.now) values.old) node item) (slice_set values.old (cell_place self.now node item) cell) values.old }
     {
-        if values.len() < self.cells_needed() {
-            return Err(Refusal::Short);
-        }
-        if node >= self.n {
-            return Err(Refusal::NoNode);
-        }
-        if item >= self.m {
-            return Err(Refusal::NoItem);
-        }
-        if self.is_faulty(node) {
-            return Err(Refusal::FaultyNode);
-        }
+        self.check_pair(values.len(), node, item)?;
         let mut cells = Grid::new(values, self.n, self.m);
         cells.put(node, item, cell);
         Ok(())

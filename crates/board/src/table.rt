@@ -1,24 +1,35 @@
 //! The records of the nodes, how the table of them is read, and the places on the boards.
-ghost use Rattle.std.specs.Prelude.{◌≡◌, ◌+◌, ◌*◌, ◌<◌, not, ◌==◌};
-ghost use Rattle.board.specs.Tables.{new_node, faulty_at, bit_at, decided_at, final_at, cells_needed, marks_needed, cell_place, mark_place, undecided_at, undecided_of, undecided_count};
+ghost use Rattle.std.specs.Prelude.{◌≡◌, ◌+◌, ◌*◌, ◌<◌, ◌≤◌, not, ◌==◌};
+ghost use Rattle.board.specs.Tables.{faulty_at, bit_at, decided_at, final_at, cells_needed, marks_needed, cell_place, mark_place, undecided_at, undecided_in, undecided_count};
 
 use super::states::{Node, Table};
 
 impl Node {
-    // An honest node that has decided nothing.
-    pub fn new() -> Node
-        ensures { result ≡ new_node }
+    // Whether one of the first items is undecided at this node, if it is honest.
+    fn any_undecided(&self, items: usize) -> bool
+        requires { items ≤ 16 }
+        ensures { result ≡ not (undecided_in self.now items == 0) }
     {
-        let none = [false; 16];
-        Node {
-            faulty: false,
-            bits: none,
-            decided: none,
-            finals: none,
+        !self.faulty && self.decided[..items].iter().any(|decided| !*decided)
+    }
+
+    // How many of the first items are undecided at this node, if it is honest; 0 at a faulty one.
+    fn count_undecided(&self, items: usize) -> usize
+        requires { items ≤ 16 }
+        ensures is { result ≡ undecided_in self.now items }
+        ensures few { result ≤ items }
+    {
+        if self.faulty {
+            return 0;
         }
+        self.decided[..items]
+            .iter()
+            .filter(|decided| !**decided)
+            .count()
     }
 }
 
+// A node and an item stay two numbers, which is plainer: a type for the pair would have to lend the table to say that they are below its sizes.
 impl Table {
     // How many places the values board and the scratch board need.
     pub fn cells_needed(&self) -> usize
@@ -101,44 +112,22 @@ impl Table {
         (sender * self.n + receiver) * self.m + item
     }
 
-    // Whether a node is honest and has not decided every item.
-    fn node_undecided(&self, node: usize) -> bool
-        requires { node < self.now.n }
-        ensures { result ≡ not (undecided_of self.now node self.now.m == 0) }
-    {
-        if self.is_faulty(node) {
-            return false;
-        }
-        for item in 0..self.m {
-            if !self.is_decided(node, item) {
-                return true;
-            }
-        }
-        false
-    }
-
     // Whether an item of an honest node is undecided.
     pub fn any_undecided(&self) -> bool
         ensures { result ≡ not (undecided_count self.now == 0) }
     {
-        for node in 0..self.n {
-            if self.node_undecided(node) {
-                return true;
-            }
-        }
-        false
+        self.nodes[..self.n]
+            .iter()
+            .any(|node| node.any_undecided(self.m))
     }
 
     // How many items of honest nodes are undecided.
     pub fn count_undecided(&self) -> usize
         ensures { result ≡ undecided_count self.now }
     {
-        let mut count = 0;
-        for k in 0..self.cells_needed() {
-            if self.is_undecided(k / self.m, k % self.m) {
-                count += 1;
-            }
-        }
-        count
+        self.nodes[..self.n]
+            .iter()
+            .map(|node| node.count_undecided(self.m))
+            .sum()
     }
 }

@@ -1,3 +1,4 @@
 pub mod Counting
 pub mod Closings
+pub mod Marks
 pub mod Soundings

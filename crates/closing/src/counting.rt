@@ -3,6 +3,7 @@ ghost use Rattle.std.specs.Prelude.{◌≡◌, ℕ, ◌+◌, ◌*◌, ◌/◌, t
 ghost use Rattle.closing.specs.Counting.{quorum_of, weak_quorum_of, backers, leading_of, graded, votes};
 
 use super::hearing::Hearing;
+use super::types::Mark;
 use reading::Reading;
 
 // The quorum of n nodes: two thirds, rounded down, and one.
@@ -23,32 +24,22 @@ pub fn weak_quorum(n: usize) -> usize
 pub fn count_backers<R: Reading, H: Hearing<R>>(sought: &R, heard: &H) -> usize
     ensures { result ≡ backers R.Reading.meaning (R.Reading.meaning sought.now) (H.Hearing.cells heard.now) }
 {
-    let mut count = 0;
-    for node in 0..heard.cell_count() {
-        if let Some(r) = heard.cell(node) {
-            if r.same(sought) {
-                count += 1;
-            }
-        }
-    }
-    count
+    let backers = (0..heard.cell_count())
+        .filter_map(|node| heard.cell(node))
+        .filter(|reading| reading.same(sought));
+    backers.count()
 }
 
 // The reading of the lowest node whose meaning has q backers.
 pub fn leading<R: Reading, H: Hearing<R>>(q: usize, heard: &H) -> Option<R>
     ensures { result ≡ leading_of R.Reading.meaning q (H.Hearing.cells heard.now) }
 {
-    for node in 0..heard.cell_count() {
-        if let Some(r) = heard.cell(node) {
-            if q <= count_backers(&r, heard) {
-                return Some(r);
-            }
-        }
-    }
-    None
+    (0..heard.cell_count())
+        .filter_map(|node| heard.cell(node))
+        .find(|reading| q <= count_backers(reading, heard))
 }
 
-// The held cell and its grade: 2 with the quorum q, else 1 with the weak quorum w, else none and 0.
+// The held cell and its grade: 2 with the quorum q, else 1 with the weak quorum w, else none and 0. A grade is a number, as the protocol has it.
 pub fn grade<R: Reading, H: Hearing<R>>(q: usize, w: usize, heard: &H) -> (Option<R>, u8)
     ensures { result ≡ graded R.Reading.meaning q w (H.Hearing.cells heard.now) }
 {
@@ -61,19 +52,19 @@ pub fn grade<R: Reading, H: Hearing<R>>(q: usize, w: usize, heard: &H) -> (Optio
     }
 }
 
+// How many nodes sent this bit.
+pub fn count_bit<R, H: Hearing<R>>(bit: bool, heard: &H) -> usize
+    ensures { result ≡ votes bit (H.Hearing.marks heard.now) }
+{
+    let sought = Mark::of_bit(bit);
+    (0..heard.mark_count())
+        .filter(|node| Mark::from(heard.mark(*node)) == sought)
+        .count()
+}
+
 // How many nodes sent the bit 0, and how many the bit 1.
 pub fn count_votes<R, H: Hearing<R>>(heard: &H) -> (usize, usize)
     ensures { result ≡ (votes false (H.Hearing.marks heard.now), votes true (H.Hearing.marks heard.now)) }
 {
-    let mut zeros = 0;
-    let mut ones = 0;
-    for node in 0..heard.mark_count() {
-        let mark = heard.mark(node);
-        if mark == 2 {
-            zeros += 1;
-        } else if mark == 3 {
-            ones += 1;
-        }
-    }
-    (zeros, ones)
+    (count_bit(false, heard), count_bit(true, heard))
 }

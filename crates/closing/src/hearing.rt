@@ -1,6 +1,8 @@
 //! What one node heard of one item.
 ghost use Rattle.std.specs.Prelude.{◌≡◌, ℕ, List, length, None, Option, slice_index, slice_index_or};
 
+use super::types::Mark;
+
 // What one node heard of one item, from node 0 on: a cell from each node (steps 1 and 2), or a mark (from step 3 on).
 pub trait Hearing<R> {
     ghost cells: { Self → List (Option R) };
@@ -19,20 +21,9 @@ pub trait Hearing<R> {
     fn mark_count(&self) -> usize
         ensures { result ≡ length (marks self.now) };
 
-    // The mark of a node, and 0 past the last.
+    // The mark of a node, and nothing past the last. It is an octet, since callers in C lend marks as octets.
     fn mark(&self, node: usize) -> u8
         ensures { result ≡ slice_index (marks self.now) node };
-}
-
-// The element at a place, or another past the last.
-fn read_or<T: Copy>(elements: &[T], place: usize, past: T) -> T
-    ensures { result ≡ slice_index_or elements.now place past }
-{
-    if place < elements.len() {
-        elements[place]
-    } else {
-        past
-    }
 }
 
 // What was heard, in two lent slices.
@@ -52,7 +43,7 @@ impl<'a, R: Copy> Hearing<R> for Heard<'a, R> {
     }
 
     fn cell(&self, node: usize) -> Option<R> {
-        read_or(self.cells, node, None)
+        self.cells.get(node).copied().flatten()
     }
 
     fn mark_count(&self) -> usize {
@@ -60,6 +51,9 @@ impl<'a, R: Copy> Hearing<R> for Heard<'a, R> {
     }
 
     fn mark(&self, node: usize) -> u8 {
-        read_or(self.marks, node, 0)
+        self.marks
+            .get(node)
+            .copied()
+            .unwrap_or(Mark::Nothing.octet())
     }
 }

@@ -15,10 +15,7 @@ use refusal::Refusal;
 fn count_heard(phase: Option<Phase>, n: usize, cells: usize, marks: usize) -> usize
     ensures { result ≡ heard_count phase n cells marks }
 {
-    match phase {
-        Some(phase) => { if phase.sends_cells() { cells } else { marks } }
-        None => n,
-    }
+    phase.map_or(n, |phase| if phase.sends_cells() { cells } else { marks })
 }
 
 // The step of this phase that an item is closed in, with the thresholds of n nodes.
@@ -45,17 +42,6 @@ fn state_of(close: &ItemClose) -> ItemState
     }
 }
 
-// The first n elements, or all where there are fewer.
-fn front<T>(elements: &[T], n: usize) -> &[T]
-    ensures { result.now ≡ take n elements.now }
-{
-    if n < elements.len() {
-        &elements[0..n]
-    } else {
-        elements
-    }
-}
-
 // Closes one item at one node, from what n nodes sent: cells in steps 1 and 2, marks later. It looks only at those that its step needs.
 pub fn close_item<'a, R: Reading, C: Coin>(
     close: ItemClose,
@@ -66,7 +52,7 @@ pub fn close_item<'a, R: Reading, C: Coin>(
     ensures { result ≡ item_answer R.Reading.meaning (C.Coin.tosses coin.now) close cells.now marks.now }
 {
     let n = close.n;
-    if n == 0 || n > 16 {
+    if !(1..=16).contains(&n) {
         return Err(Refusal::BadSize);
     }
     let phase = Phase::of_step(close.step);
@@ -82,21 +68,15 @@ pub fn close_item<'a, R: Reading, C: Coin>(
     if close.bit > 1 {
         return Err(Refusal::WrongPhase);
     }
-    match phase {
-        Some(phase) => {
-            let heard = Heard {
-                cells: front(cells, n),
-                marks: front(marks, n),
-            };
-            Ok(close_heard(&step_of(&close, phase), &state_of(&close), coin, &heard))
-        }
-        None => Err(Refusal::Over),
-    }
+    let phase = phase.ok_or(Refusal::Over)?;
+    let heard = Heard {
+        cells: &cells[..n.min(cells.len())],
+        marks: &marks[..n.min(marks.len())],
+    };
+    Ok(close_heard(&step_of(&close, phase), &state_of(&close), coin, &heard))
 }
 
 // The worked cases of the meanings and of the closings hold.
-pub fn soundings_hold() -> u8
+pub fn soundings_hold()
     ensures { Soundings }
-{
-    0
-}
+{}

@@ -4,7 +4,8 @@
 pub mod counting;
 pub mod hearing;
 pub mod item;
+pub mod marks;
 pub mod steps;
 pub mod types;
 
-pub use types::{Closed, ItemClose, ItemState, Phase, Step};
+pub use types::{Closed, ItemClose, ItemState, Mark, Phase, Step};

@@ -1,10 +1,10 @@
 //! The closings of the steps.
-ghost use Rattle.std.specs.Prelude.{◌≡◌};
+ghost use Rattle.std.specs.Prelude.{◌≡◌, cond};
 ghost use Rattle.closing.specs.Closings.{phase_of, sends_cells, to_zero, to_one, by_toss, closed};
 ghost use Rattle.closing.specs.Counting.{leading_of, graded};
 ghost use Rattle.coin.specs.Tosses.{toss_of};
 
-use super::counting::{count_votes, grade, leading};
+use super::counting::{count_bit, count_votes, grade, leading};
 use super::hearing::Hearing;
 use super::types::{Closed, ItemState, Phase, Step};
 use coin::Coin;
@@ -52,31 +52,16 @@ pub fn close_echo<R: Reading, H: Hearing<R>>(step: &Step, heard: &H) -> (Option<
     grade(step.quorum, step.weak_quorum, heard)
 }
 
-// Step 3k (Coin-Fixed-To-0): the bit, and whether it is decided. Only zeros decide.
-pub fn close_to_zero<R, H: Hearing<R>>(step: &Step, heard: &H) -> (bool, bool)
-    ensures { result ≡ to_zero step.now.quorum (H.Hearing.marks heard.now) }
+// Steps 3k (Coin-Fixed-To-0) and 3k + 1 (Coin-Fixed-To-1), by the bit that the coin is fixed to: the bit, and whether it is decided. Only that bit decides.
+pub fn close_fixed<R, H: Hearing<R>>(bit: bool, step: &Step, heard: &H) -> (bool, bool)
+    ensures { result ≡ cond bit (to_one step.now.quorum (H.Hearing.marks heard.now)) (to_zero step.now.quorum (H.Hearing.marks heard.now)) }
 {
-    let (zeros, ones) = count_votes(heard);
-    if zeros >= step.quorum {
-        (false, true)
-    } else if ones >= step.quorum {
-        (true, false) // ones decide nothing here
+    if count_bit(bit, heard) >= step.quorum {
+        (bit, true)
+    } else if count_bit(!bit, heard) >= step.quorum {
+        (!bit, false) // the other bit decides nothing here
     } else {
-        (false, false)
-    }
-}
-
-// Step 3k + 1 (Coin-Fixed-To-1): the bit, and whether it is decided. Only ones decide.
-pub fn close_to_one<R, H: Hearing<R>>(step: &Step, heard: &H) -> (bool, bool)
-    ensures { result ≡ to_one step.now.quorum (H.Hearing.marks heard.now) }
-{
-    let (zeros, ones) = count_votes(heard);
-    if ones >= step.quorum {
-        (true, true)
-    } else if zeros >= step.quorum {
-        (false, false) // zeros decide nothing here
-    } else {
-        (true, false)
+        (bit, false)
     }
 }
 
@@ -120,8 +105,8 @@ pub fn close_heard<R: Reading, C: Coin, H: Hearing<R>>(
                 bit: grade != 2,
             };
         }
-        Phase::ToZero => close_to_zero(step, heard),
-        Phase::ToOne => close_to_one(step, heard),
+        Phase::ToZero => close_fixed(false, step, heard),
+        Phase::ToOne => close_fixed(true, step, heard),
         Phase::Toss => close_toss(step, state, coin, heard),
     };
     if state.decided {

@@ -1,5 +1,14 @@
 //! What a closing starts from, and what it gives.
 
+// What one node sent another of an item in a step, as the boards keep it: nothing, a cell, or a bit.
+#[derive(Clone, Copy, PartialEq, Eq, Debug)]
+pub enum Mark {
+    Nothing = 0,
+    Cell = 1,
+    Zero = 2,
+    One = 3,
+}
+
 // The sort of a step: step 1, step 2, and of round k the steps 3k, 3k + 1 and 3k + 2.
 #[derive(Clone, Copy, PartialEq, Eq, Debug)]
 pub enum Phase {
@@ -35,6 +44,7 @@ pub struct ItemClose {
     pub node: usize,
     pub step: usize,
     pub item: usize,
+    // an octet, as callers of the C interface give it: one above 1 is refused after the other checks
     pub bit: u8,
     pub decided: bool,
 }

@@ -1,10 +1,11 @@
 //! Coins: the bit that each node gets for a round and an item. True is 1.
 #![tactic(auto)]
 
-ghost use Rattle.std.specs.Prelude.{◌≡◌, ℕ, Bool, length};
+ghost use Rattle.std.specs.Prelude.{◌≡◌, ◌<◌, ◌≤◌, ℕ, Bool, false, length};
 ghost use Rattle.coin.specs.Tosses.{toss_of, no_toss, strip_toss, strip_refusal, seeded_toss, crossed_toss};
 ghost use Rattle.refusal.specs.Refusals.{answered};
 ghost use Rattle.std.specs.Result.{result_map_both};
+ghost use Rattle.std.proofs.Common.{rules};
 
 use refusal::Refusal;
 
@@ -16,6 +17,12 @@ pub trait Coin {
     // The toss of any node; 0 for round 0 and for an item above 15.
     fn toss(&self, node: usize, round: usize, item: usize) -> bool
         ensures { result ≡ toss_of (tosses self.now) node round item };
+
+    // Every coin tosses 0 for round 0.
+    ghost before_rounds: { (coin : Self) (node item : ℕ) → toss_of (tosses coin) node 0 item ≡ false } = { Prim.search rules };
+
+    // Every coin tosses 0 for an item above 15.
+    ghost past_items: { (coin : Self) (node round item : ℕ) → 15 < item → toss_of (tosses coin) node round item ≡ false } = { Prim.search rules };
 }
 
 // Whether every coin gives 0 there.
@@ -29,6 +36,8 @@ fn no_toss(round: usize, item: usize) -> bool
 #[derive(Drop)]
 pub struct Strip<'a> {
     entries: &'a [u16],
+    // There are 1 to 1,024 entries.
+    ghost counted: { (1 ≤ length entries.now) × (length entries.now ≤ 1024) },
 }
 
 impl<'a> Strip<'a> {
@@ -47,14 +56,10 @@ impl<'a> Coin for Strip<'a> {
     ghost tosses = { λ s _ k c. strip_toss s.entries.now k c };
 
     fn toss(&self, _node: usize, round: usize, item: usize) -> bool {
-        let count = self.entries.len();
         if no_toss(round, item) {
             return false;
         }
-        if count == 0 {
-            return false;
-        }
-        let entry = self.entries[(round - 1) % count];
+        let entry = self.entries[(round - 1) % self.entries.len()];
         (entry >> item) % 2 == 1
     }
 }

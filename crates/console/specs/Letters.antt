@@ -1,9 +1,11 @@
 -- The letters of lines, and how many fields follow each.
-use Rattle.std.specs.Prelude.{ℕ, Bool, cond, ◌&&◌, List, length, Some, None, Option, ◌==◌, nat_le, slice_index}
+use Rattle.std.specs.Prelude.{◌≡◌, ℕ, Bool, cond, ◌&&◌, List, length, Some, None, Option, Result, ◌==◌, nat_le, slice_index}
 use Rattle.std.specs.List.{slice_get}
+use Rattle.std.specs.Option.{ok_or}
 use Rattle.lines.specs.Digits.{and_then}
 use Rattle.console.specs.declared.types.Letter.{Letter}
 use Rattle.console.specs.declared.types.Letter.TheVariants.{Make, Faulty, Propose, Strip, Open, Value, Bit, Final, Close, Look, End}
+use Rattle.console.specs.declared.types.NoLetter.{NoLetter}
 
 -- what a field is that is one octet, by that octet; none for any other field
 abbrev pub by_octet : {X : Type 0} → (ℕ → Option X) → List ℕ → Option X
@@ -24,6 +26,10 @@ letter_named c =
     (cond (c == 76) (Some Look)
     (cond (c == 90) (Some End)
     None))))))))))
+
+-- the result is the letter that a character is, or says that there is none
+abbrev pub Lettered : ℕ → Result Letter NoLetter → Type 0
+Lettered c r = r ≡ ok_or (letter_named c) (record {})
 
 -- the letter that the first field of a line is
 abbrev pub letter_in : List (List ℕ) → Option Letter

@@ -1,3 +1,4 @@
 pub mod Turns
 pub mod Letters
 pub mod Grammar
+pub mod Spots

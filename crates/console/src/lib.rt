@@ -8,6 +8,7 @@ mod parse;
 mod turns;
 pub mod types;
 
-pub use letters::{letter_of, takes_fields};
+pub use letters::letter_of;
 pub use parse::parse_line;
-pub use types::{Command, Kind, Letter, Turn};
+pub use reading::Kind;
+pub use types::{Command, Letter, NoLetter, Turn};

@@ -3,11 +3,10 @@ ghost use Rattle.std.specs.Prelude.{◌≡◌};
 ghost use Rattle.console.specs.Grammar.{line_fault, parsed};
 
 use crate::commands::parse_command;
-use crate::fields::LINE;
-use crate::letters::{letter_of, takes_fields};
+use crate::letters::letter_of;
 use crate::types::{Command, Turn};
 use lines::count_fields;
-use refusal::{Fault, Refusal};
+use refusal::{Fault, Layer, Refusal};
 use spelling::Spelled;
 
 // The longest line that is taken.
@@ -19,7 +18,7 @@ fn line_fault(refusal: Refusal, place: usize) -> Fault
 {
     Fault {
         refusal,
-        layer: LINE,
+        layer: Layer::Line,
         place,
     }
 }
@@ -31,15 +30,13 @@ pub fn parse_line<R: Spelled>(line: &[u8], turn: Turn) -> Result<Command<R>, Fau
     if line.is_empty() || line.len() > LIMIT {
         return Err(line_fault(Refusal::Torn, line.len()));
     }
-    let Some(letter) = letter_of(line) else {
-        return Err(line_fault(Refusal::StrangeLetter, 0));
-    };
+    let letter = letter_of(line).ok_or(line_fault(Refusal::StrangeLetter, 0))?;
     let in_turn = turn.takes(letter);
-    if matches!(turn, Turn::First) && !in_turn {
+    if turn == Turn::First && !in_turn {
         return Err(line_fault(Refusal::OutOfTurn, 0));
     }
     let count = count_fields(line, b' ') - 1;
-    if !takes_fields(letter, count) {
+    if !letter.takes_fields(count) {
         return Err(line_fault(Refusal::Torn, line.len()));
     }
     let command = parse_command(line, letter, count)?;

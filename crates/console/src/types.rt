@@ -1,12 +1,6 @@
 //! The commands that lines give.
 use law::{Call, SetupCall};
-
-// The kinds of reading that a line can name.
-#[derive(Clone, Copy, PartialEq, Eq, Debug)]
-pub enum Kind {
-    Bearings,
-    Lamps,
-}
+use reading::Kind;
 
 // The letters that a line can begin with: N, X, I, T, O, S, B, W, C, L, Z.
 #[derive(Clone, Copy, PartialEq, Eq, Debug)]
@@ -23,6 +17,10 @@ pub enum Letter {
     Look,
     End,
 }
+
+// A character that no line begins with.
+#[derive(Clone, Copy, PartialEq, Eq, Debug)]
+pub struct NoLetter;
 
 // Where a run stands: nothing is made yet, a setup, an instance, an outcome.
 #[derive(Clone, Copy, PartialEq, Eq, Debug)]
@@ -41,6 +39,7 @@ pub enum Command<R> {
     // A call on the setup.
     Prepare(SetupCall<R>),
     // Sets the strip: the first `count` of these entries.
+    // A type for the two that is Copy would also have to say what stands past the count, so they stay a pair.
     Strip { entries: [u16; 8], count: usize },
     // Opens the setup.
     Open,

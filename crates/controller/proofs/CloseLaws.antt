@@ -1,8 +1,10 @@
 -- Closings of octets that pass the checks of form, and what a closing looks at.
-use Rattle.std.proofs.Common.{◌≡◌, ℕ, ◌+◌, ◌*◌, ◌/◌, ◌%◌, ◌≤◌, min, Bool, true, ◌||◌, eqb, ltb, leb, List, length, take, is_some, Some, None, Err, Option, sym, refl, ap, ◌∙◌, inl, inr, arith}
+use Rattle.std.proofs.Common.{◌≡◌, ℕ, ◌+◌, ◌*◌, ◌/◌, ◌%◌, ◌≤◌, min, Bool, true, ◌||◌, eqb, ltb, leb, List, length, take, is_some, Some, None, Ok, Err, Option, Result, OnOk, sym, refl, ap, ◌∙◌, inl, inr, arith}
+use Rattle.std.specs.Result.{result_map_both}
 use Rattle.std.proofs.lemmas.Nat.{div-add-mod'}
 use Rattle.std.proofs.lemmas.List.{length-take, take-take}
 use Rattle.std.proofs.lemmas.Bool.{cases_Bool, cases_lt, lt-ltb, le-ltb, ltb-false, eq-eqb, ne_eqb, or_parts}
+use Rattle.refusal.specs.declared.Refusal.{Refusal}
 use Rattle.refusal.specs.declared.Refusal.TheVariants.{BadSize, Short, NoNode, NoItem, WrongPhase, StrangeReading}
 use Rattle.refusal.specs.declared.Fault.{Fault}
 use Rattle.refusal.specs.Refusals.{refuse, unless}
@@ -78,7 +80,18 @@ strange_cells w meaning reads a strip cells marks even whole flag some =
     let e₃ = le-ltb 1 a.decided flag in
     simp (e₁, e₂, e₃, some)
 
--- a fault that was found is there
-pub fault_there : {X : Type 0} (o : Option Fault) (x : X) (f : Fault) → Err f ≡ unless_fault o x → is_some o ≡ true
-fault_there None x f e = absurd (let z : ◌≡◌ {A = ℕ} 0 1 = cc in omega arith)
-fault_there (Some g) x f e = refl
+-- no fault was found
+pub strange_ok : (o : Option Fault) (x y : Unit {0}) → Ok x ≡ result_map_both (λ z. z) (λ _. StrangeReading) (unless_fault o y) → o ≡ None
+strange_ok None x y e = refl
+strange_ok (Some f) x y e = absurd (let z : ◌≡◌ {A = ℕ} 0 1 = cc in omega arith)
+
+-- a fault was found
+pub strange_err : (o : Option Fault) (x : Unit {0}) (d : Refusal) → Err d ≡ result_map_both (λ z. z) (λ _. StrangeReading) (unless_fault o x)
+    → (d ≡ StrangeReading) × (is_some o ≡ true)
+strange_err None x d e = absurd (let z : ◌≡◌ {A = ℕ} 0 1 = cc in omega arith)
+strange_err (Some f) x d e = (cc, refl)
+
+-- what holds of an answer that is no fault
+pub when_ok : {T E P : Type 0} (r : Result T E) (x : T) → r ≡ Ok x → OnOk r P → P
+when_ok (Ok y) x e p = p
+when_ok (Err f) x e p = absurd (let z : ◌≡◌ {A = ℕ} 0 1 = cc in omega arith)

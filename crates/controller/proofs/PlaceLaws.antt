@@ -1,14 +1,12 @@
 -- Elements that are put at the front of a place, one by one or one part behind another.
-use Rattle.std.proofs.Common.{◌≡◌, ℕ, suc, ◌+◌, ◌-◌, ◌<◌, ◌≤◌, min, Bool, true, false, cond, ltb, leb, List, [], ◌∷◌, ◌++◌, length, take, drop, set, replicate, None, Ok, Err, sym, refl, ap, ◌∙◌, inl, inr, arith}
+use Rattle.std.proofs.Common.{◌≡◌, ℕ, ◌+◌, ◌-◌, ◌<◌, ◌≤◌, min, true, false, ltb, List, [], ◌∷◌, ◌++◌, length, take, drop, set, Ok, Err, sym, ap, ◌∙◌, inl, inr, arith}
 use borrow.Rule.Slice.PartMut.{put_mid}
-use Rattle.refusal.specs.declared.Refusal.{Refusal}
 use Rattle.refusal.specs.declared.Refusal.TheVariants.{Short}
-use Rattle.refusal.specs.Refusals.{number, refuse, answered}
-use Rattle.std.proofs.lemmas.List.{append-nil, append_assoc, length-append, length-take, length-drop, length_push, length-replicate, take_all, take_at, take-append-le, take_rest, drop_all, drop_at, drop-drop, drop_more, set_at, set_past}
-use Rattle.std.proofs.lemmas.Bool.{cases_lt, le-leb, lt-ltb, le-ltb, cond-true, cond-false}
+use Rattle.refusal.specs.Refusals.{answered}
+use Rattle.std.proofs.lemmas.List.{append-nil, append_assoc, length-append, length-take, length_push, take_all, take_at, take-append-le, drop_all, drop_at, drop-drop, drop_more, set_at, set_past}
+use Rattle.std.proofs.lemmas.Bool.{cases_lt, lt-ltb, le-ltb, cond-true, cond-false}
 use Rattle.reading.specs.Octets.{room, placed}
-use Rattle.controller.specs.Answers.{result_number, after}
-use Rattle.controller.specs.Places.{laid, put_front, fitting}
+use Rattle.controller.specs.Places.{laid, put_front}
 
 -- where there is room for all of them
 laid_all : {X : Type 0} (xs place : List X) → length xs ≤ length place → laid xs place ≡ xs ++ drop (length xs) place
@@ -58,46 +56,18 @@ laid_front xs place n k l e =
           ∙ sym (take_all n xs h)
     ]
 
--- a 1 and then octets that are put behind it
-pub flag_front : (w : ℕ) (place o ys : List ℕ) → length o ≡ w → w + 1 ≤ length place
-    → ys ≡ placed w o (take (length (set place 0 1) - 1) (drop 1 (set place 0 1)))
-    → put_mid 1 (length (set place 0 1) - 1) (set place 0 1) ys ≡ put_front (1 ∷ o) place
-flag_front w [] o ys l h e = absurd (omega arith)
-flag_front w (x ∷ xs) o ys l h e =
-    let k : length (1 ∷ xs) - 1 ≡ length xs = omega arith in
-    let t : take (length (1 ∷ xs) - 1) xs ≡ xs = ap (λ n. take n xs) k ∙ take_all (length xs) xs (omega arith) in
-    let b : ltb (length xs) w ≡ false = le-ltb (length xs) w (omega arith) in
-    let d : drop (length (1 ∷ xs) - 1) xs ≡ [] = drop_all (length (1 ∷ xs) - 1) xs (omega arith) in
-    ap (λ t. 1 ∷ (ys ++ t)) d
-    ∙ ap (λ t. 1 ∷ t) (append-nil ys ∙ e ∙ ap (placed w o) t ∙ cond-false (ltb (length xs) w) xs (o ++ drop w xs) b)
-    ∙ ap (λ n. 1 ∷ (o ++ drop n xs)) (sym l)
-
 -- octets put behind others
-pub put_behind : (a b place now ys : List ℕ) (n : ℕ) → length a ≡ n → n + length b ≤ length place → now ≡ put_front a place
-    → ys ≡ put_front b (take (length now - n) (drop n now)) → put_mid n (length now - n) now ys ≡ put_front (a ++ b) place
-put_behind a b place now ys n l h e f =
-    let la : length (put_front a place) ≡ length a + (length place - length a) = length-append a (drop (length a) place) ∙ ap (λ k. length a + k) (length-drop (length a) place) in
-    let ln : length now ≡ length place = omega (arith, ap length e) in
-    let dn : drop n now ≡ drop n place = ap (drop n) e ∙ drop_at a (drop (length a) place) n l ∙ ap (λ k. drop k place) l in
-    let tn : take n now ≡ a = ap (take n) e ∙ take_at a (drop (length a) place) n l in
-    let rest : take (length now - n) (drop n now) ≡ drop n place = take_rest now n ∙ dn in
-    let y : ys ≡ b ++ drop (n + length b) place = f ∙ ap (put_front b) rest ∙ ap (λ t. b ++ t) (drop-drop (length b) n place) in
-    let last : drop (length now - n) (drop n now) ≡ [] = drop_all (length now - n) (drop n now) (omega (arith, length-drop n now)) in
-    ap (λ t. t ++ (ys ++ drop (length now - n) (drop n now))) tn
-    ∙ ap (λ t. a ++ (ys ++ t)) last
-    ∙ ap (λ t. a ++ t) (append-nil ys ∙ y)
+pub put_behind : (a b place now ys : List ℕ) (n k : ℕ) → length a ≡ n → k ≡ length b → now ≡ put_front a place → ys ≡ b
+    → put_mid n k now ys ≡ put_front (a ++ b) place
+put_behind a b place now ys n k l h e f =
+    let d : drop n now ≡ drop n place = ap (drop n) e ∙ drop_at a (drop (length a) place) n l ∙ ap (λ j. drop j place) l in
+    let t : take n now ≡ a = ap (take n) e ∙ take_at a (drop (length a) place) n l in
+    let z : n + length b ≡ length (a ++ b) = omega (arith, length-append a b) in
+    ap (λ x. x ++ (ys ++ drop k (drop n now))) t
+    ∙ ap (λ x. a ++ (x ++ drop k (drop n now))) f
+    ∙ ap (λ x. a ++ (b ++ x)) (ap (drop k) d ∙ ap (λ j. drop j (drop n place)) h ∙ drop-drop (length b) n place)
     ∙ sym (append_assoc a b (drop (n + length b) place))
-    ∙ ap (λ k. (a ++ b) ++ drop k place) (let z : n + length b ≡ length (a ++ b) = omega (arith, length-append a b) in z)
-
--- zeros at the front
-pub zeros_front : (w s : ℕ) (place ys : List ℕ) → s ≡ w + 1 → s ≤ length place → ys ≡ replicate (length (take (s - 0) place)) 0
-    → ys ++ drop (s - 0) place ≡ put_front (0 ∷ replicate w 0) place
-zeros_front w s place ys e h f =
-    let z : s - 0 ≡ w + 1 = omega arith in
-    let l : length (take (s - 0) place) ≡ suc w = omega (arith, length-take (s - 0) place) in
-    let r : length (0 ∷ replicate {A = ℕ} w 0) ≡ s - 0 = omega (arith, length-replicate {A = ℕ} w 0) in
-    ap (λ t. t ++ drop (s - 0) place) (f ∙ ap (λ n. replicate {A = ℕ} n 0) l)
-    ∙ ap (λ n. (0 ∷ replicate w 0) ++ drop n place) (sym r)
+    ∙ ap (λ j. (a ++ b) ++ drop j place) z
 
 -- a place that is too short
 pub short_room : {X : Type 0} (n : ℕ) (place : List ℕ) (x : X) → length place < n → Err Short ≡ answered (room n place) x
@@ -113,18 +83,3 @@ enough_room n place x h = let b : ltb (length place) n ≡ false = le-ltb (lengt
 pub enough_placed : (o place : List ℕ) → length o ≤ length place → put_front o place ≡ placed (length o) o place
 enough_placed o place h =
     sym (cond-false (ltb (length place) (length o)) place (o ++ drop (length o) place) (le-ltb (length place) (length o) h))
-
--- octets that fit
-pub fits : (o place : List ℕ) → length o ≤ length place → fitting o place ≡ o
-fits o place h = cond-true (leb (length o) (length place)) o [] (le-leb (length o) (length place) h)
-
--- what is left where putting octets into a place is refused
-refused_where : {X : Type 0} (x : X) (b : Bool) (o place : List ℕ) (d : Refusal) → Err d ≡ answered (refuse b Short None) x
-    → (number d ≡ result_number (answered (refuse b Short None) o))
-    × (cond b place (o ++ drop (length o) place) ≡ after (answered (refuse b Short None) o) put_front place)
-refused_where x true o place d e = let q : d ≡ Short = cc in (ap number q, refl)
-refused_where x false o place d e = absurd (let z : ◌≡◌ {A = ℕ} 0 1 = cc in omega arith)
-
-pub refused_place : {X : Type 0} (x : X) (o place : List ℕ) (d : Refusal) → Err d ≡ answered (room (length o) place) x
-    → (number d ≡ result_number (answered (room (length o) place) o)) × (placed (length o) o place ≡ after (answered (room (length o) place) o) put_front place)
-refused_place x o place d e = refused_where x (ltb (length place) (length o)) o place d e

@@ -1,12 +1,12 @@
 -- Items in octets, and messages that are written from them.
-use Rattle.std.proofs.Common.{◌≡◌, ℕ, ◌+◌, ◌-◌, ◌<◌, ◌≤◌, min, Bool, true, false, cond, not, eqb, List, ◌++◌, length, get_or, take, drop, Some, None, Ok, Err, Option, Result, sym, refl, ap, ◌∙◌, arith}
+use Rattle.std.proofs.Common.{◌≡◌, ℕ, ◌-◌, ◌≤◌, min, Bool, true, false, not, eqb, List, ◌++◌, length, take, drop, Some, None, Ok, Err, Option, Result, sym, refl, ap, ◌∙◌, arith}
 use Rattle.std.specs.Result.{result_map_both}
-use Rattle.std.proofs.lemmas.List.{at_drop_more, at_drop_all, take_all}
-use Rattle.std.proofs.lemmas.Bool.{lt-ltb, le-ltb, eq-eqb, ne_eqb}
-use Rattle.refusal.specs.declared.Refusal.TheVariants.{Torn, StrangeReading}
+use Rattle.std.proofs.lemmas.List.{take_all}
+use Rattle.std.proofs.lemmas.Bool.{eq-eqb}
+use Rattle.refusal.specs.declared.Refusal.TheVariants.{Torn}
 use Rattle.refusal.specs.declared.Fault.{Fault}
 use Rattle.wire.specs.declared.message.Letter.{Letter}
-use Rattle.wire.specs.Faults.{in_message, check}
+use Rattle.wire.specs.Faults.{in_message, check, bad_size}
 use Rattle.wire.specs.Letters.{letter_of}
 use Rattle.wire.specs.Messages.{Contents, message_octets}
 use Rattle.wire.specs.Writes.{contents_answer, written}
@@ -14,24 +14,8 @@ use Rattle.wire.proofs.BackLaws.{back_again}
 use Rattle.controller.specs.declared.types.MessageHead.{MessageHead}
 use Rattle.controller.specs.Answers.{after}
 use Rattle.controller.specs.Places.{laid, put_front}
-use Rattle.controller.specs.Writes.{flags_fault, or_fault, items_checks, contents_written, items_written, kind_written}
+use Rattle.controller.specs.Writes.{or_fault, items_checks, contents_written, items_written, kind_written}
 use Rattle.controller.proofs.PlaceLaws.{laid_front}
-
--- an octet that is a bit
-pub flags_pass : (o : List ℕ) (i : ℕ) → i < length o → get_or o i 0 ≤ 1 → flags_fault i (drop i o) ≡ flags_fault (i + 1) (drop (i + 1) o)
-flags_pass o i h e =
-    at_drop_more (flags_fault i) o i 0 h
-    ∙ ap (λ b. cond b (Some (in_message StrangeReading (5 + i))) (flags_fault (i + 1) (drop (i + 1) o))) (le-ltb 1 (get_or o i 0) e)
-
--- one that is none
-pub flags_stop : (o : List ℕ) (i : ℕ) → i < length o → 1 < get_or o i 0 → flags_fault i (drop i o) ≡ Some (in_message StrangeReading (5 + i))
-flags_stop o i h e =
-    at_drop_more (flags_fault i) o i 0 h
-    ∙ ap (λ b. cond b (Some (in_message StrangeReading (5 + i))) (flags_fault (i + 1) (drop (i + 1) o))) (lt-ltb 1 (get_or o i 0) e)
-
--- none is left
-pub flags_all : (o : List ℕ) (i : ℕ) → length o ≤ i → flags_fault i (drop i o) ≡ None
-flags_all o i h = at_drop_all (flags_fault i) o i h
 
 -- items that pass their checks
 pub items_passed : {X : Type 0} (given wanted : ℕ) (fault : Option Fault) (later : Result X Fault) → given ≡ wanted → fault ≡ None
@@ -46,14 +30,9 @@ front_all xs place k l e h =
 
 -- sizes that are in range, and a letter
 pub kind_passed : {X : Type 0} (w : ℕ) (octets : X → List ℕ) (reads : List ℕ → Option X) (n : ℕ) (a : MessageHead) (o place : List ℕ) (l : Letter)
-    → letter_of a.letter ≡ Some l → (n ≡ 0 → ⊥) → n ≤ 16 → (a.items ≡ 0 → ⊥) → a.items ≤ 16
+    → letter_of a.letter ≡ Some l → bad_size n ≡ false → bad_size a.items ≡ false
     → kind_written w octets reads n a o place ≡ items_written w octets reads n a o place l
-kind_passed w octets reads n a o place l k n₀ n₁ m₀ m₁ =
-    let e₁ = ne_eqb n 0 n₀ in
-    let e₂ = le-ltb 16 n n₁ in
-    let e₃ = ne_eqb a.items 0 m₀ in
-    let e₄ = le-ltb 16 a.items m₁ in
-    simp (k, e₁, e₂, e₃, e₄)
+kind_passed w octets reads n a o place l k b₁ b₂ = simp (k, b₁, b₂)
 
 module _ {X : Type 0} (w : ℕ) (octets : X → List ℕ) (reads : List ℕ → Option X) (long : (r : X) → length (octets r) ≡ w)
     (back : (r : X) → reads (octets r) ≡ Some r) (n m : ℕ) (place : List ℕ) (c : Contents X) (r : Result ℕ Fault) (now : List ℕ) where

@@ -2,7 +2,7 @@
 use Rattle.std.specs.Prelude.{ℕ, Ok, Err, Result}
 use Rattle.refusal.specs.declared.Refusal.{Refusal}
 use Rattle.refusal.specs.declared.Fault.{Fault}
-use Rattle.refusal.specs.Refusals.{number}
+use Rattle.refusal.specs.Refusals.{number, layer_number}
 use Rattle.controller.specs.declared.types.MessageFault.{MessageFault}
 
 -- the number that a call answers: 0, or the refusal's
@@ -17,7 +17,7 @@ fault_number (Err f) = number f.refusal
 
 -- a fault, as a caller is told it
 abbrev pub told_fault : Fault → MessageFault
-told_fault f = record { place = f.place; number = number f.refusal; layer = f.layer }
+told_fault f = record { place = f.place; number = number f.refusal; layer = layer_number f.layer }
 
 -- what a lent place holds after a call: what f makes of it by the result, or what it held where the call was refused
 abbrev pub after : {X Y E : Type 0} → Result X E → (X → Y → Y) → Y → Y

@@ -14,10 +14,10 @@ use Rattle.closing.specs.Closings.{item_answer}
 use Rattle.wire.specs.Bits.{bit_number}
 use Rattle.wire.specs.Items.{cell_octets, cells_fault}
 use Rattle.wire.specs.Messages.{cells_in}
-use Rattle.controller.specs.declared.types.Kind.{Kind}
-use Rattle.controller.specs.declared.types.Kind.TheVariants.{Bearings, Lamps}
+use Rattle.reading.specs.declared.kind.Kind.{Kind}
+use Rattle.reading.specs.declared.kind.Kind.TheVariants.{Bearings, Lamps}
 use Rattle.controller.specs.declared.types.CloseRequest.{CloseRequest}
-use Rattle.controller.specs.Kinds.{kind_of}
+use Rattle.reading.specs.Kinds.{kind_of}
 use Rattle.controller.specs.Strips.{tosses_in}
 
 -- the closing that is asked for

@@ -1,4 +1,3 @@
-pub mod Kinds
 pub mod Places
 pub mod Answers
 pub mod Words

@@ -10,10 +10,10 @@ use Rattle.wire.specs.Letters.{letter_octet}
 use Rattle.wire.specs.Looks.{has_cells}
 use Rattle.wire.specs.Messages.{Parts, bits_in}
 use Rattle.wire.specs.Reads.{read_answer}
-use Rattle.controller.specs.declared.types.Kind.{Kind}
-use Rattle.controller.specs.declared.types.Kind.TheVariants.{Bearings, Lamps}
+use Rattle.reading.specs.declared.kind.Kind.{Kind}
+use Rattle.reading.specs.declared.kind.Kind.TheVariants.{Bearings, Lamps}
 use Rattle.controller.specs.declared.types.MessageHead.{MessageHead}
-use Rattle.controller.specs.Kinds.{kind_of}
+use Rattle.reading.specs.Kinds.{kind_of}
 
 -- the octets of bits, one for each
 abbrev pub flags : List ℕ → ℕ → List ℕ

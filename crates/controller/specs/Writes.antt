@@ -14,10 +14,10 @@ use Rattle.wire.specs.Letters.{letter_of}
 use Rattle.wire.specs.Messages.{Contents, with_cells, with_bits, heading, message_octets, cells_in}
 use Rattle.wire.specs.Reads.{with_letter}
 use Rattle.wire.specs.Writes.{contents_answer}
-use Rattle.controller.specs.declared.types.Kind.{Kind}
-use Rattle.controller.specs.declared.types.Kind.TheVariants.{Bearings, Lamps}
+use Rattle.reading.specs.declared.kind.Kind.{Kind}
+use Rattle.reading.specs.declared.kind.Kind.TheVariants.{Bearings, Lamps}
 use Rattle.controller.specs.declared.types.MessageHead.{MessageHead}
-use Rattle.controller.specs.Kinds.{kind_of}
+use Rattle.reading.specs.Kinds.{kind_of}
 
 -- the fault of the first of some octets that is no bit, from item i on
 abbrev pub flags_fault : ℕ → List ℕ → Option Fault

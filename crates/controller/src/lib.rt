@@ -4,8 +4,6 @@
 mod cells;
 pub mod close;
 mod faults;
-mod kinds;
-mod places;
 pub mod read;
 mod strips;
 pub mod types;

@@ -10,16 +10,14 @@ ghost use Rattle.controller.specs.Answers.{fault_number, after, fault_after};
 ghost use Rattle.controller.specs.Places.{put_front};
 ghost use Rattle.controller.specs.Reads.{flags, items_octets, told_head, items_room, with_room, message_read};
 
-use crate::close::bit_octet;
-use crate::faults::{in_message, tell};
-use crate::places::put;
-use crate::types::{Kind, MessageFault, MessageHead};
-use reading::Reading;
+use crate::faults::tell;
+use crate::types::{MessageFault, MessageHead};
 use reading::bearing::Bearing;
 use reading::lamp::Lamp;
+use reading::{Kind, Reading};
 use refusal::{Fault, Refusal};
-use wire::Message;
 use wire::read::read_message;
+use wire::{Message, in_message};
 
 // What a message says besides its items.
 fn told_head(message: &Message<'_>) -> MessageHead
@@ -40,11 +38,11 @@ fn fill_flags(message: &Message<'_>, items: &mut [u8])
     requires room { length items.old ≡ (parts_of message.now).count }
     ensures { items.new ≡ flags (parts_of message.now).rest (parts_of message.now).count }
 {
-    for i in 0..items.len() {
+    for (i, place) in items.iter_mut().enumerate() {
         let Ok(bit) = message.bit(i) else {
             unreachable()
         };
-        items[i] = bit_octet(bit);
+        *place = u8::from(bit);
     }
 }
 
@@ -74,7 +72,7 @@ fn write_items(message: &Message<'_>, items: &mut [u8]) -> Result<(), Fault>
             if items.len() < body.len() {
                 return Err(in_message(Refusal::Short, 0));
             }
-            put(body, items);
+            items[..body.len()].copy_from_slice(body);
             Ok(())
         }
         Message::Bits { .. } | Message::Final { .. } => write_flags(message, items),
@@ -88,20 +86,15 @@ fn read_kind<R: Reading>(
     octets: &[u8],
     items: &mut [u8],
 ) -> Result<MessageHead, Fault>
-    ensures answer { result ≡ result_map_both told_head (λ f. f) (with_room items.old (read_answer R.Reading.width R.Reading.reads n m octets.now)) }
-    ensures after { items.new ≡ after (with_room items.old (read_answer R.Reading.width R.Reading.reads n m octets.now)) (λ p. put_front (items_octets p)) items.old }
+    ensures answer { result ≡ result_map_both told_head (λ f. f) (with_room items.old (read_answer R.Reading.WIDTH R.Reading.reads n m octets.now)) }
+    ensures after { items.new ≡ after (with_room items.old (read_answer R.Reading.WIDTH R.Reading.reads n m octets.now)) (λ p. put_front (items_octets p)) items.old }
 {
-    let message = match read_message::<R>(octets, n, m) {
-        Ok(message) => message,
-        Err(fault) => return Err(fault),
-    };
-    match write_items(&message, items) {
-        Ok(_) => Ok(told_head(&message)),
-        Err(fault) => Err(fault),
-    }
+    let message = read_message::<R>(octets, n, m)?;
+    write_items(&message, items)?;
+    Ok(told_head(&message))
 }
 
-// The same of the kind that a letter names.
+// Reads a message of the kind that a letter names, and writes its items to the front of a place.
 fn read_by(
     kind: u8,
     n: usize,
@@ -112,10 +105,10 @@ fn read_by(
     ensures answer { result ≡ result_map_both told_head (λ f. f) (message_read kind n m octets.now items.old) }
     ensures after { items.new ≡ after (message_read kind n m octets.now items.old) (λ p. put_front (items_octets p)) items.old }
 {
-    match Kind::of(kind) {
-        Some(Kind::Bearings) => read_kind::<Bearing>(n, m, octets, items),
-        Some(Kind::Lamps) => read_kind::<Lamp>(n, m, octets, items),
-        None => Err(in_message(Refusal::StrangeLetter, 0)),
+    match Kind::try_from(kind) {
+        Ok(Kind::Bearings) => read_kind::<Bearing>(n, m, octets, items),
+        Ok(Kind::Lamps) => read_kind::<Lamp>(n, m, octets, items),
+        Err(_) => Err(in_message(Refusal::StrangeLetter, 0)),
     }
 }
 

@@ -16,8 +16,9 @@ fn read_entries(octets: &[u8], entries: &mut [u16])
     requires { length entries.old ≡ length octets.now / 2 }
     ensures { entries.new ≡ entries_in octets.now }
 {
-    for i in 0..entries.len() {
-        entries[i] = u16::from_be_bytes([octets[2 * i], octets[2 * i + 1]]);
+    // A zip with `octets.chunks_exact(2)` was tried: its proof knows nothing of what is written.
+    for (i, entry) in entries.iter_mut().enumerate() {
+        *entry = u16::from_be_bytes([octets[2 * i], octets[2 * i + 1]]);
     }
 }
 
@@ -30,10 +31,8 @@ fn close_by_entries<'a, R: Reading>(
 ) -> Result<Closed<R>, Refusal>
     ensures { result ≡ unless (strip_refusal (length entries.now)) (item_answer R.Reading.meaning (λ _ k i. strip_toss entries.now k i) close cells.now marks.now) }
 {
-    match Strip::new(entries) {
-        Ok(strip) => close_item(close, &strip, cells, marks),
-        Err(refusal) => Err(refusal),
-    }
+    let strip = Strip::new(entries)?;
+    close_item(close, &strip, cells, marks)
 }
 
 // The closing under the strip that octets are.

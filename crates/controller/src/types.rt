@@ -1,11 +1,4 @@
-//! What a caller lends beside octets, in C's layout, and the kinds of reading.
-
-// The kinds of reading.
-#[derive(Clone, Copy)]
-pub enum Kind {
-    Bearings,
-    Lamps,
-}
+//! What a caller lends beside octets, in C's layout: the numbers and octets of C stand for kinds, letters, bits, refusals and layers.
 
 // The closing of one item at one node, as a caller asks for it: `kind` is B or L, `decided` is 0 or 1.
 #[repr(C)]

@@ -10,15 +10,16 @@ ghost use Rattle.controller.specs.Answers.{fault_number, after, fault_after};
 ghost use Rattle.controller.specs.Places.{put_front};
 ghost use Rattle.controller.specs.Writes.{flags_fault, flag_bits, items_checks, head_with, kind_written, message_written};
 
-use crate::cells::{read_cells, stride};
-use crate::faults::{in_message, tell};
-use crate::types::{Kind, MessageFault, MessageHead};
-use reading::Reading;
+use crate::cells::read_cells;
+use crate::faults::tell;
+use crate::types::{MessageFault, MessageHead};
 use reading::bearing::Bearing;
 use reading::lamp::Lamp;
+use reading::{Kind, Reading};
 use refusal::{Fault, Refusal};
+use wire::message::HEAD_LENGTH;
 use wire::write::{write_bits, write_cells};
-use wire::{BitLetter, CellLetter, Head, Letter};
+use wire::{BitLetter, CellLetter, Head, Letter, in_message, out_of_range, stride};
 
 // What a caller's head says, with a letter.
 fn head_with<L>(letter: L, head: &MessageHead) -> Head<L>
@@ -37,11 +38,11 @@ fn read_flags(items: &[u8], bits: &mut [bool]) -> Result<(), Fault>
     ensures answer { result ≡ unless_fault (flags_fault 0 items.now) tt }
     ensures after { OnOk result (bits.new ≡ flag_bits items.now) }
 {
-    for i in 0..items.len() {
-        if items[i] > 1 {
-            return Err(in_message(Refusal::StrangeReading, 5 + i));
+    for (i, item) in items.iter().enumerate() {
+        if *item > 1 {
+            return Err(in_message(Refusal::StrangeReading, HEAD_LENGTH + i));
         }
-        bits[i] = items[i] == 1;
+        bits[i] = *item == 1;
     }
     Ok(())
 }
@@ -57,16 +58,14 @@ fn write_given_cells<R: Reading>(
 ) -> Result<usize, Fault>
     requires few { head.now.items ≤ 16 }
     requires space { length cells.old ≡ 16 }
-    ensures answer { result ≡ items_checks (length items.now) (head.now.items * (R.Reading.width + 1)) (cells_fault R.Reading.width R.Reading.reads items.now 0 head.now.items) (write_answer (cells_head (head_with letter head.now)) n head.now.items (length (cells_in R.Reading.width R.Reading.reads items.now head.now.items)) (head.now.items * (R.Reading.width + 1)) (length place.old)) }
-    ensures after { place.new ≡ written result (cells_message R.Reading.width R.Reading.octets (head_with letter head.now) (cells_in R.Reading.width R.Reading.reads items.now head.now.items)) place.old }
+    ensures answer { result ≡ items_checks (length items.now) (head.now.items * (R.Reading.WIDTH + 1)) (cells_fault R.Reading.WIDTH R.Reading.reads items.now 0 head.now.items) (write_answer (cells_head (head_with letter head.now)) n head.now.items (length (cells_in R.Reading.WIDTH R.Reading.reads items.now head.now.items)) (head.now.items * (R.Reading.WIDTH + 1)) (length place.old)) }
+    ensures after { place.new ≡ written result (cells_message R.Reading.WIDTH R.Reading.octets (head_with letter head.now) (cells_in R.Reading.WIDTH R.Reading.reads items.now head.now.items)) place.old }
 {
     let m = head.items;
     if items.len() != m * stride::<R>() {
         return Err(in_message(Refusal::Torn, items.len()));
     }
-    if let Err(fault) = read_cells(items, m, cells) {
-        return Err(fault);
-    }
+    read_cells(items, m, cells)?;
     let cells: &[Option<R>] = cells;
     write_cells(n, m, head_with(letter, head), &cells[0..m], place)
 }
@@ -89,9 +88,7 @@ fn write_given_bits(
     }
     let mut places = [false; 16];
     let bits: &mut [bool] = &mut places[0..m];
-    if let Err(fault) = read_flags(items, bits) {
-        return Err(fault);
-    }
+    read_flags(items, bits)?;
     write_bits(n, m, head_with(letter, head), bits, place)
 }
 
@@ -104,13 +101,13 @@ fn write_kind<R: Reading>(
     place: &mut [u8],
 ) -> Result<usize, Fault>
     requires { length cells.old ≡ 16 }
-    ensures answer { result ≡ result_map_both length (λ f. f) (kind_written R.Reading.width R.Reading.octets R.Reading.reads n head.now items.now place.old) }
-    ensures after { place.new ≡ after (kind_written R.Reading.width R.Reading.octets R.Reading.reads n head.now items.now place.old) put_front place.old }
+    ensures answer { result ≡ result_map_both length (λ f. f) (kind_written R.Reading.WIDTH R.Reading.octets R.Reading.reads n head.now items.now place.old) }
+    ensures after { place.new ≡ after (kind_written R.Reading.WIDTH R.Reading.octets R.Reading.reads n head.now items.now place.old) put_front place.old }
 {
-    let Some(letter) = Letter::of(head.letter) else {
+    let Ok(letter) = Letter::try_from(head.letter) else {
         return Err(in_message(Refusal::StrangeLetter, 0));
     };
-    if n == 0 || n > 16 || head.items == 0 || head.items > 16 {
+    if out_of_range(n) || out_of_range(head.items) {
         return Err(in_message(Refusal::BadSize, 0));
     }
     match letter {
@@ -119,7 +116,7 @@ fn write_kind<R: Reading>(
     }
 }
 
-// The same of the kind that a letter names.
+// Writes a message of the kind that a letter names to the front of a place, and says how long it is.
 fn write_by(
     kind: u8,
     n: usize,
@@ -130,16 +127,16 @@ fn write_by(
     ensures answer { result ≡ result_map_both length (λ f. f) (message_written kind n head.now items.now place.old) }
     ensures after { place.new ≡ after (message_written kind n head.now items.now place.old) put_front place.old }
 {
-    match Kind::of(kind) {
-        Some(Kind::Bearings) => {
+    match Kind::try_from(kind) {
+        Ok(Kind::Bearings) => {
             let mut cells: [Option<Bearing>; 16] = [None; 16];
             write_kind(n, head, items, &mut cells, place)
         }
-        Some(Kind::Lamps) => {
+        Ok(Kind::Lamps) => {
             let mut cells: [Option<Lamp>; 16] = [None; 16];
             write_kind(n, head, items, &mut cells, place)
         }
-        None => Err(in_message(Refusal::StrangeLetter, 0)),
+        Err(_) => Err(in_message(Refusal::StrangeLetter, 0)),
     }
 }
 

@@ -1,5 +1,5 @@
 -- The boards of a new desk: they suffice for all sizes, and blanking them alters nothing.
-use Rattle.std.proofs.Common.{◌≡◌, ℕ, zero, suc, ◌*◌, ◌≤◌, false, ◌||◌, ltb, List, [], ◌∷◌, length, take, set, replicate, Some, None, Ok, Err, vec_items, Option, sym, refl, ap, ◌∙◌, subst, inl, inr, mul-le-mul, arith}
+use Rattle.std.proofs.Common.{◌≡◌, ℕ, zero, suc, ◌*◌, ◌≤◌, false, ◌||◌, ltb, List, [], ◌∷◌, length, set, replicate, Some, None, Ok, Err, Option, sym, refl, ap, ◌∙◌, subst, inl, inr, mul-le-mul, arith}
 use lib.ListN.{length-replicate}
 use Rattle.std.proofs.lemmas.Bool.{cases_Bool, le-ltb}
 use Rattle.std.proofs.lemmas.Bool.Decides.{nat_tests}
@@ -13,7 +13,7 @@ use Rattle.agreement.specs.Setups as agreement
 use Rattle.play.specs.Played.{bad_sizes}
 use Rattle.desk.proofs.Same.{same_held}
 use Rattle.desk.specs.declared.stage.Stage.TheVariants.{Making}
-use Rattle.desk.specs.declared.stage.Desk.{Desk}
+use Rattle.desk.specs.Views.{Held}
 use Rattle.desk.specs.Desks.{size_refusal, Makes}
 
 -- writing an element over a list of it alters nothing
@@ -61,23 +61,23 @@ module _ {R : Type 0} (n m : ℕ) (vs : List (Option R)) (ms : List ℕ) (ev : v
       ∙ only_sizes n m
 
   -- a desk with what a new setup leaves
-  made_by : (o : Option Refusal) (s : Setup) (d : Desk R) → agreement.Makes n m o (Ok s) → d.stage ≡ Making s
-      → vec_items d.values ≡ if_accepted o (blank_values n m vs) vs → vec_items d.sent ≡ replicate 4096 None
-      → vec_items d.marks ≡ if_accepted o (blank_marks n m ms) ms → take d.count d.entries ≡ 0 ∷ [] → Makes n m o (Ok d)
+  made_by : (o : Option Refusal) (s : Setup) (d : Held R) → agreement.Makes n m o (Ok s) → d.stage ≡ Some (Making s)
+      → d.values ≡ if_accepted o (blank_values n m vs) vs → d.sent ≡ replicate 4096 None
+      → d.marks ≡ if_accepted o (blank_marks n m ms) ms → d.strip ≡ 0 ∷ [] → Makes n m o (Ok d)
   made_by None s d h stage values sent marks strip =
       let z = h.0 in
       let es : s ≡ agreement.made n m z = cc in (
         record { some_node = z.0; few_nodes = z.1; some_item = z.2; few_items = z.3 },
-        ap Ok (same_held d.stage (Making (agreement.made n m z)) (vec_items d.values) (replicate 256 None) (vec_items d.sent) (replicate 4096 None) (vec_items d.marks) (replicate 4096 0)
-            (take d.count d.entries) (0 ∷ []) (stage ∙ ap Making es)
+        ap Ok (same_held d.stage (Some (Making (agreement.made n m z))) d.values (replicate 256 None) d.sent (replicate 4096 None) d.marks (replicate 4096 0)
+            d.strip (0 ∷ []) (stage ∙ ap (λ k. Some (Making k)) es)
             (values ∙ ap (λ xs. blank_values n m xs) ev ∙ written_alike (n * m) 256 None) sent
             (marks ∙ ap (λ xs. blank_marks n m xs) em ∙ written_alike (n * n * m) 4096 0) strip),
       )
   made_by (Some e) s d h stage values sent marks strip = absurd (let z : ◌≡◌ {A = ℕ} 0 1 = cc in omega arith)
 
-  pub new_made : (s : Setup) (d : Desk R) → agreement.Makes n m (make_refusal n m (length vs) (length ms)) (Ok s) → d.stage ≡ Making s
-      → vec_items d.values ≡ if_accepted (make_refusal n m (length vs) (length ms)) (blank_values n m vs) vs → vec_items d.sent ≡ replicate 4096 None
-      → vec_items d.marks ≡ if_accepted (make_refusal n m (length vs) (length ms)) (blank_marks n m ms) ms → take d.count d.entries ≡ 0 ∷ []
+  pub new_made : (s : Setup) (d : Held R) → agreement.Makes n m (make_refusal n m (length vs) (length ms)) (Ok s) → d.stage ≡ Some (Making s)
+      → d.values ≡ if_accepted (make_refusal n m (length vs) (length ms)) (blank_values n m vs) vs → d.sent ≡ replicate 4096 None
+      → d.marks ≡ if_accepted (make_refusal n m (length vs) (length ms)) (blank_marks n m ms) ms → d.strip ≡ 0 ∷ []
       → Makes n m (size_refusal n m) (Ok d)
   new_made s d h stage values sent marks strip =
       subst (λ o. Makes n m o (Ok d)) blank_refusal (made_by (make_refusal n m (length vs) (length ms)) s d h stage values sent marks strip)

@@ -1,4 +1,5 @@
 mod Boards
 mod Results
+mod Room
 mod Same
 mod Serving

@@ -14,12 +14,13 @@ use Rattle.coin.specs.Tosses.{strip_toss}
 use Rattle.law.specs.declared.calls.SetupCall.{SetupCall}
 use Rattle.law.specs.declared.calls.Call.{Call}
 use Rattle.law.specs.declared.calls.Call.TheVariants as call
-use Rattle.law.specs.declared.calls.Answer.{Answer}
-use Rattle.law.specs.Runs.{Prepared, setup_answer, setup_after, World, refusal, says, effect, answer_of, answered_by, after}
+use Rattle.law.specs.declared.calls.Told.{Told}
+use Rattle.law.specs.Runs.{Prepared, setup_answer, setup_after, World, refusal, says, effect, answered_by, after}
 use Rattle.play.specs.Moves.{Lent, fits_call, move_of, setup_move_of, SetupMade, Made, world_of}
 use Rattle.desk.specs.declared.stage.Stage.TheVariants.{Making, Running}
 use Rattle.desk.specs.declared.stage.Reply.{Reply}
-use Rattle.desk.specs.Desks.{Held, done_reply, seen_reply, prepares, setup_move, with_setup, looks, acts, world, with_world}
+use Rattle.desk.specs.Views.{Held}
+use Rattle.desk.specs.Desks.{done_reply, seen_reply, prepares, setup_move, with_setup, looks, acts, world, with_world}
 use Rattle.desk.proofs.Boards.{few_cells, few_pairs}
 
 -- boards of 256 and of 4096 places are long enough
@@ -47,7 +48,7 @@ calls_fit t b l (call.Undecided places) = refl
 
 module _ {R : Type 0} (h : Held R) where
   -- a look at a table, on the values board as it was lent
-  pub looked : (t : Table) (i c : ℕ) (vs : List (Option R)) (d : Result (Decision R) Refusal) (r : Reply R) → vs ≡ h.values → length vs ≡ 256
+  pub looked : (t : Table) (i c : ℕ) (vs : List (Option R)) (d : Result (Decision R) Refusal) (r : Result (Reply R) Refusal) → vs ≡ h.values → length vs ≡ 256
       → d ≡ answered (decision_refusal t (fits (cells_needed t) vs) i c) (decision_of t vs i c) → r ≡ seen_reply i c d → r ≡ (looks h i c t).reply
   looked t i c vs d r ev l ed er =
       er ∙ ap (seen_reply i c) (ed
@@ -55,10 +56,10 @@ module _ {R : Type 0} (h : Held R) where
       ∙ ap (λ xs. answered (decision_refusal t true i c) (decision_of t xs i c)) ev)
 
   -- a call on the setup
-  pub prepared_by : (s s' : Setup) (k : SetupCall R) (vs vs' : List (Option R)) (a : Answer R) (r : Reply R) → vs ≡ h.values → length vs ≡ 256
+  pub prepared_by : (s s' : Setup) (k : SetupCall R) (vs vs' : List (Option R)) (a : Result (Told R) Refusal) (r : Result (Reply R) Refusal) → vs ≡ h.values → length vs ≡ 256
       → SetupMade (setup_move_of s.table.n s.table.m vs k) (record { table = s.table; values = vs }) (record { table = s'.table; values = vs' }) a
       → r ≡ done_reply a
-      → (r ≡ (prepares h k s).reply) × (◌≡◌ {A = Held R} (record { stage = Making s'; values = vs'; sent = h.sent; marks = h.marks; strip = h.strip }) (prepares h k s).held)
+      → (r ≡ (prepares h k s).reply) × (◌≡◌ {A = Held R} (record { stage = Some (Making s'); values = vs'; sent = h.sent; marks = h.marks; strip = h.strip }) (prepares h k s).held)
   prepared_by s s' k vs vs' a r ev l m er =
       let p : List (Option R) → Prepared R = λ xs. record { table = s.table; values = xs } in
       let fit = cells_fit s.table vs l in (
@@ -71,11 +72,11 @@ module _ {R : Type 0} (h : Held R) where
       )
 
   -- a send or a close on the instance
-  pub acted_by : (meaning : R → ℕ) (s s' : Instance) (k : Call R) (es : List ℕ) (b b' : Lent R) (a : Answer R) (r : Reply R) → es ≡ h.strip → Long b
+  pub acted_by : (meaning : R → ℕ) (s s' : Instance) (k : Call R) (es : List ℕ) (b b' : Lent R) (a : Result (Told R) Refusal) (r : Result (Reply R) Refusal) → es ≡ h.strip → Long b
       → b.values ≡ h.values → b.sent ≡ h.sent → b.marks ≡ h.marks
       → Made meaning (move_of s.table.n s.table.m b (λ node round item. strip_toss es round item) k) (world_of s b) (world_of s' b') a
       → r ≡ done_reply a
-      → (r ≡ (acts meaning h k s).reply) × (◌≡◌ {A = Held R} (record { stage = Running s'; values = b'.values; sent = b'.sent; marks = b'.marks; strip = h.strip }) (acts meaning h k s).held)
+      → (r ≡ (acts meaning h k s).reply) × (◌≡◌ {A = Held R} (record { stage = Some (Running s'); values = b'.values; sent = b'.sent; marks = b'.marks; strip = h.strip }) (acts meaning h k s).held)
   unfolding answered_by after
   acted_by meaning s s' k es b b' a r ee l ev et em m er =
       let fit = calls_fit s.table b l k in
@@ -83,8 +84,8 @@ module _ {R : Type 0} (h : Held R) where
       let left : Bool → World R → List ℕ → World R =
       λ f x xs. if_accepted (refusal x f k) (effect meaning (λ node round item. strip_toss xs round item) x k) x in (
         er ∙ ap done_reply (m.answer
-            ∙ ap (λ f. answer_of (refusal (world_of s b) f k) (says (world_of s b) k)) fit
-            ∙ ap (λ x. answer_of (refusal x true k) (says x k)) w),
+            ∙ ap (λ f. answered (refusal (world_of s b) f k) (says (world_of s b) k)) fit
+            ∙ ap (λ x. answered (refusal x true k) (says x k)) w),
         ap (with_world h) (m.world
             ∙ ap (λ f. left f (world_of s b) es) fit ∙ ap (λ x. left true x es) w ∙ ap (λ xs. left true (world h s) xs) ee),
       )

@@ -1,7 +1,6 @@
 -- A desk as plain lists, and what its commands make of it.
-use Rattle.std.specs.Prelude.{◌≡◌, ℕ, min, max, Bool, true, cond, not, ◌&&◌, List, [], ◌∷◌, map, take, replicate, Some, None, Ok, Err, vec_items, Option, Result, nat_lt}
+use Rattle.std.specs.Prelude.{◌≡◌, ℕ, min, max, Bool, true, cond, not, ◌&&◌, List, [], ◌∷◌, map, take, replicate, Some, None, Ok, Err, Option, Result, nat_lt}
 use Rattle.std.specs.List.{range_with_len}
-use Rattle.std.specs.Result.{result_map_both}
 use Rattle.refusal.specs.declared.Refusal.{Refusal}
 use Rattle.refusal.specs.declared.Refusal.TheVariants.{BadSize, OutOfTurn}
 use Rattle.refusal.specs.Refusals.{refuse, answered}
@@ -16,8 +15,7 @@ use Rattle.coin.specs.Tosses.{strip_toss}
 use Rattle.law.specs.declared.calls.SetupCall.{SetupCall}
 use Rattle.law.specs.declared.calls.Call.{Call}
 use Rattle.law.specs.declared.calls.Call.TheVariants as call
-use Rattle.law.specs.declared.calls.Answer.{Answer}
-use Rattle.law.specs.declared.calls.Answer.TheVariants as answer
+use Rattle.law.specs.declared.calls.Told.{Told}
 use Rattle.law.specs.Runs.{SetupMove, Prepared, setup_answer, setup_after, Move, World, answered_by, after}
 use Rattle.law.specs.Law.{Sizes}
 use Rattle.play.specs.Played.{bad_sizes}
@@ -26,28 +24,17 @@ use Rattle.console.specs.declared.types.Command.TheVariants as command
 use Rattle.console.specs.declared.types.Turn.{Turn}
 use Rattle.console.specs.declared.types.Turn.TheVariants as turn
 use Rattle.desk.specs.declared.stage.Stage.{Stage}
-use Rattle.desk.specs.declared.stage.Stage.TheVariants.{Empty, Making, Running, Ended}
-use Rattle.desk.specs.declared.stage.Desk.{Desk}
+use Rattle.desk.specs.declared.stage.Stage.TheVariants.{Making, Running, Ended}
+use Rattle.desk.specs.Views.{Held}
 use Rattle.desk.specs.declared.stage.Reply.{Reply}
 use Rattle.desk.specs.declared.stage.Reply.TheVariants as reply
 
--- A desk as plain lists; of the scratch board only the length matters.
-pub record Held (R : Type 0) : Type 0 where
-  pub stage : Stage
-  pub values : List (Option R)
-  pub sent : List (Option R)
-  pub marks : List ℕ
-  pub strip : List ℕ
-
-abbrev pub held : {R : Type 0} → Desk R → Held R
-held d = record { stage = d.stage; values = vec_items d.values; sent = vec_items d.sent; marks = vec_items d.marks; strip = take d.count d.entries }
-
 -- where a run stands
-abbrev pub stage_turn : Stage → Turn
-stage_turn Empty = turn.First
-stage_turn (Making s) = turn.Setup
-stage_turn (Running i) = turn.Running
-stage_turn (Ended o) = turn.Ended
+abbrev pub stage_turn : Option Stage → Turn
+stage_turn None = turn.First
+stage_turn (Some (Making s)) = turn.Setup
+stage_turn (Some (Running i)) = turn.Running
+stage_turn (Some (Ended o)) = turn.Ended
 
 abbrev pub turn_of : {R : Type 0} → Held R → Turn
 turn_of h = stage_turn h.stage
@@ -59,7 +46,7 @@ size_refusal n m = refuse (bad_sizes n m) BadSize None
 -- a new desk: a new setup, blank boards, and a strip of one entry, 0
 abbrev pub new_desk : {R : Type 0} → (n m : ℕ) → Sizes n m → Held R
 new_desk n m sizes = record {
-  stage = Making (made n m (sizes.some_node, sizes.few_nodes, sizes.some_item, sizes.few_items));
+  stage = Some (Making (made n m (sizes.some_node, sizes.few_nodes, sizes.some_item, sizes.few_items)));
   values = replicate 256 None;
   sent = replicate 4096 None;
   marks = replicate 4096 0;
@@ -67,13 +54,13 @@ new_desk n m sizes = record {
 }
 
 -- what making a desk answers: the refusal, or else the new desk, whose sizes are right
-abbrev pub Makes : {R : Type 0} → ℕ → ℕ → Option Refusal → Result (Desk R) Refusal → Type 0
-Makes n m None r = (sizes : Sizes n m) × (result_map_both held (λ e. e) r ≡ Ok (new_desk n m sizes))
+abbrev pub Makes : {R : Type 0} → ℕ → ℕ → Option Refusal → Result (Held R) Refusal → Type 0
+Makes n m None r = (sizes : Sizes n m) × (r ≡ Ok (new_desk n m sizes))
 Makes n m (Some e) r = r ≡ Err e
 
 -- What a command leaves: what is replied, and the desk as it then stands.
 pub record Served (R : Type 0) : Type 0 where
-  pub reply : Reply R
+  pub reply : Result (Reply R) Refusal
   pub held : Held R
 
 -- the strip that a command gives: as many entries as it says, but at least one and at most eight
@@ -82,35 +69,32 @@ strip_of es count = take (min (max count 1) 8) es
 
 module _ {R : Type 0} where
   -- what is replied to a look at node i and item c
-  abbrev pub seen_reply : ℕ → ℕ → Result (Decision R) Refusal → Reply R
-  seen_reply i c (Ok d) = reply.Decision i c d
-  seen_reply i c (Err e) = reply.Refused e
+  abbrev pub seen_reply : ℕ → ℕ → Result (Decision R) Refusal → Result (Reply R) Refusal
+  seen_reply i c (Ok d) = Ok (reply.Decision i c d)
+  seen_reply i c (Err e) = Err e
 
   -- what is replied to a call that has nothing more to say
-  abbrev pub done_reply : Answer R → Reply R
-  done_reply (answer.Refused e) = reply.Refused e
-  done_reply answer.Done = reply.Done
-  done_reply answer.Open = reply.Done
-  done_reply (answer.Decided x) = reply.Done
-  done_reply (answer.Count k) = reply.Done
+  abbrev pub done_reply : Result (Told R) Refusal → Result (Reply R) Refusal
+  done_reply (Ok t) = Ok reply.Done
+  done_reply (Err e) = Err e
 
   -- a command out of turn is refused and alters nothing
   abbrev pub out_of_turn : Held R → Served R
-  out_of_turn h = record { reply = reply.Refused OutOfTurn; held = h }
+  out_of_turn h = record { reply = Err OutOfTurn; held = h }
 
   -- a command that is in turn on a setup alone
-  abbrev pub on_setup : Held R → (Setup → Served R) → Stage → Served R
-  on_setup h f Empty = out_of_turn h
-  on_setup h f (Making s) = f s
-  on_setup h f (Running i) = out_of_turn h
-  on_setup h f (Ended o) = out_of_turn h
+  abbrev pub on_setup : Held R → (Setup → Served R) → Option Stage → Served R
+  on_setup h f None = out_of_turn h
+  on_setup h f (Some (Making s)) = f s
+  on_setup h f (Some (Running i)) = out_of_turn h
+  on_setup h f (Some (Ended o)) = out_of_turn h
 
   -- a command that is in turn on an instance alone
-  abbrev pub on_instance : Held R → (Instance → Served R) → Stage → Served R
-  on_instance h f Empty = out_of_turn h
-  on_instance h f (Making s) = out_of_turn h
-  on_instance h f (Running i) = f i
-  on_instance h f (Ended o) = out_of_turn h
+  abbrev pub on_instance : Held R → (Instance → Served R) → Option Stage → Served R
+  on_instance h f None = out_of_turn h
+  on_instance h f (Some (Making s)) = out_of_turn h
+  on_instance h f (Some (Running i)) = f i
+  on_instance h f (Some (Ended o)) = out_of_turn h
 
   -- a call on the setup, whose boards are long enough
   abbrev pub setup_move : SetupCall R → SetupMove R
@@ -122,7 +106,7 @@ module _ {R : Type 0} where
 
   -- the desk with what a call leaves of the setup
   abbrev pub with_setup : Held R → Prepared R → Held R
-  with_setup h p = record { stage = Making (record { table = p.table }); values = p.values; sent = h.sent; marks = h.marks; strip = h.strip }
+  with_setup h p = record { stage = Some (Making (record { table = p.table })); values = p.values; sent = h.sent; marks = h.marks; strip = h.strip }
 
   -- what a call on the setup leaves
   abbrev pub prepares : Held R → SetupCall R → Setup → Served R
@@ -134,22 +118,22 @@ module _ {R : Type 0} where
   -- setting the strip: the latest stands
   abbrev pub strips : Held R → List ℕ → ℕ → Setup → Served R
   strips h es count s = record {
-    reply = reply.Done;
+    reply = Ok reply.Done;
     held = record { stage = h.stage; values = h.values; sent = h.sent; marks = h.marks; strip = strip_of es count };
   }
 
   -- opening the setup
   abbrev pub opens : Held R → Setup → Served R
   opens h s = record {
-    reply = reply.Done;
-    held = record { stage = Running (opened s); values = h.values; sent = h.sent; marks = h.marks; strip = h.strip };
+    reply = Ok reply.Done;
+    held = record { stage = Some (Running (opened s)); values = h.values; sent = h.sent; marks = h.marks; strip = h.strip };
   }
 
   -- ending the instance
   abbrev pub ends : Held R → Instance → Served R
   ends h i = record {
-    reply = reply.Rows;
-    held = record { stage = Ended (record { table = i.table }); values = h.values; sent = h.sent; marks = h.marks; strip = h.strip };
+    reply = Ok reply.Rows;
+    held = record { stage = Some (Ended (record { table = i.table })); values = h.values; sent = h.sent; marks = h.marks; strip = h.strip };
   }
 
   -- what a node's decision of an item is replied as
@@ -157,11 +141,11 @@ module _ {R : Type 0} where
   looks h i c t = record { reply = seen_reply i c (answered (decision_refusal t true i c) (decision_of t h.values i c)); held = h }
 
   -- a look is in turn on an instance and on an outcome
-  abbrev pub on_table : Held R → (Table → Served R) → Stage → Served R
-  on_table h f Empty = out_of_turn h
-  on_table h f (Making s) = out_of_turn h
-  on_table h f (Running i) = f i.table
-  on_table h f (Ended o) = f o.table
+  abbrev pub on_table : Held R → (Table → Served R) → Option Stage → Served R
+  on_table h f None = out_of_turn h
+  on_table h f (Some (Making s)) = out_of_turn h
+  on_table h f (Some (Running i)) = f i.table
+  on_table h f (Some (Ended o)) = f o.table
 
   -- the instance with its boards
   abbrev pub world : Held R → Instance → World R
@@ -169,7 +153,7 @@ module _ {R : Type 0} where
 
   -- the desk with what a call leaves of the instance
   abbrev pub with_world : Held R → World R → Held R
-  with_world h w = record { stage = Running w.state; values = w.values; sent = w.sent; marks = w.marks; strip = h.strip }
+  with_world h w = record { stage = Some (Running w.state); values = w.values; sent = w.sent; marks = w.marks; strip = h.strip }
 
   -- a call on the instance, whose boards are long enough, and whose coin is this strip
   abbrev pub strip_move : List ℕ → Call R → Move R
@@ -210,11 +194,11 @@ module _ {R : Type 0} where
   abbrev pub results_of : Table → List (Option R) → ℕ → List (Decision R)
   results_of t values i = cond (has_row t i) (map (decision_of t values i) (range_with_len 0 t.m)) []
 
-  abbrev pub stage_row : List (Option R) → ℕ → Stage → List (Decision R)
-  stage_row values i Empty = []
-  stage_row values i (Making s) = []
-  stage_row values i (Running w) = []
-  stage_row values i (Ended o) = results_of o.table values i
+  abbrev pub stage_row : List (Option R) → ℕ → Option Stage → List (Decision R)
+  stage_row values i None = []
+  stage_row values i (Some (Making s)) = []
+  stage_row values i (Some (Running w)) = []
+  stage_row values i (Some (Ended o)) = results_of o.table values i
 
   -- a node's row on a desk: there are rows after the end alone
   abbrev pub row_of : Held R → ℕ → List (Decision R)

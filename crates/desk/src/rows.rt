@@ -1,6 +1,6 @@
 //! The rows of an ended run.
 ghost use Rattle.std.specs.Prelude.{◌≡◌, length, IfOk};
-ghost use Rattle.desk.specs.Desks.{held, results_of, row_of};
+ghost use Rattle.desk.specs.Desks.{results_of, row_of};
 
 use super::stage::{Desk, Stage};
 use agreement::Outcome;
@@ -31,10 +31,10 @@ fn results<R: Copy>(
 impl<R: Reading> Desk<R> {
     // A node's row: what it had decided of each item when the run ended. A node that is faulty or none of the run's has an empty one, and before the end all have.
     pub fn row(&self, heap: Global, node: usize) -> Result<Vec<Decision<R>>, AllocError>
-        ensures { IfOk result (λ v. v.items ≡ row_of (held self.now) node) }
+        ensures { IfOk result (λ v. v.items ≡ row_of self.now node) }
     {
         match &self.stage {
-            Stage::Ended(outcome) => results(heap, outcome, &self.values, node),
+            Some(Stage::Ended(outcome)) => results(heap, outcome, &self.boards.values, node),
             _ => Ok(Vec::new(heap)),
         }
     }

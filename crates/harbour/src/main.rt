@@ -17,7 +17,7 @@ fn run(rt: &HostRuntime) -> anyhow::Result<()> {
         if count == 0 {
             break;
         }
-        harbour.feed(heap, &buffer[0..count], &mut text)?;
+        harbour.feed(heap, &buffer[..count], &mut text)?;
         rt.stdout().write_all(&text)?;
         text.clear();
     }

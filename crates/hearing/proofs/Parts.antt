@@ -1,20 +1,14 @@
 -- The parts of a close.
-use Rattle.std.proofs.Common.{◌≡◌, ℕ, ◌+◌, ◌/◌, ◌%◌, ◌<◌, ◌≤◌, Bool, true, ◌&&◌, List, length, get_or, None, Option, sym, ap, ◌∙◌, add-one, arith}
-use Rattle.std.proofs.lemmas.Nat.{div_below, mod_below}
+use Rattle.std.proofs.Common.{◌≡◌, ℕ, ◌+◌, ◌<◌, ◌≤◌, Bool, true, false, ◌&&◌, List, ◌++◌, length, get_or, take, drop, Option, sym, ap, ◌∙◌, add-one, arith}
+use Rattle.std.proofs.lemmas.List.{same_lists, take_at, length-take}
 use Rattle.std.proofs.lemmas.Bool.{leb-true, and_parts}
 use Rattle.closing.specs.declared.types.Closed.{Closed}
 use Rattle.board.specs.declared.states.Node.{Node}
 use Rattle.board.specs.declared.states.Table.{Table}
 use Rattle.board.specs.Tables.{written, fits, node_at, faulty_at, bit_at, decided_at, cells_needed, marks_needed}
 use Rattle.hearing.specs.Closes.{new_bit, new_decided}
-use Rattle.hearing.specs.Rooms.{Room, boards_fit, with_vote}
-use Rattle.board.proofs.Boards.{written_at, written_alike}
-
--- the pair at a place of the values board
-pub pair_below : (t : Table) (k : ℕ) → k < cells_needed t → (k / t.m < t.n) × (k % t.m < t.m)
-pair_below t k h =
-    let pos : 0 < t.m = omega (arith, t.sizes) in
-    (div_below k t.m t.n pos h, mod_below k t.m pos)
+use Rattle.hearing.specs.Rooms.{boards_fit, with_vote, with_closed}
+use Rattle.board.proofs.Boards.{length_written, written_at, written_past, written_front}
 
 module _ {R : Type 0} (t : Table) (i : ℕ) (f : ℕ → Closed R) where
   -- node i with the first k items closed
@@ -27,21 +21,33 @@ module _ {R : Type 0} (t : Table) (i : ℕ) (f : ℕ → Closed R) where
   }
 
   -- one more item
-  pub node_more : (c : ℕ) (x y : Node) (v : Closed R) (b d : Bool) → x ≡ node_part c → v ≡ f c → b ≡ bit_at t i c → d ≡ decided_at t i c
-      → y ≡ with_vote c (new_bit v b) (new_decided v d) x → y ≡ node_part (c + 1)
-  node_more c x y v b d e p q r h =
+  pub node_more : (c : ℕ) (x y : Node) (v : Closed R) → x ≡ node_part c → v ≡ f c → y ≡ with_closed c v x → y ≡ node_part (c + 1)
+  node_more c x y v e p h =
       h
-      ∙ ap (with_vote c (new_bit v b) (new_decided v d)) e
-      ∙ ap (λ (w : Closed R). with_vote c (new_bit w b) (new_decided w d) (node_part c)) p
-      ∙ ap (λ (w : Bool). with_vote c (new_bit (f c) w) (new_decided (f c) d) (node_part c)) q
-      ∙ ap (λ (w : Bool). with_vote c (new_bit (f c) (bit_at t i c)) (new_decided (f c) w) (node_part c)) r
+      ∙ ap (with_closed c v) e
+      ∙ ap (λ (w : Closed R). with_closed c w (node_part c)) p
+      ∙ ap (λ (b : Bool). with_vote c (new_bit (f c) b) (new_decided (f c) (get_or (node_part c).decided c false)) (node_part c))
+      (written_past c (λ k. new_bit (f k) (bit_at t i k)) (node_at t i).bits c false (omega arith))
+      ∙ ap (λ (b : Bool). with_vote c (new_bit (f c) (bit_at t i c)) (new_decided (f c) b) (node_part c))
+      (written_past c (λ k. new_decided (f k) (decided_at t i k)) (node_at t i).decided c false (omega arith))
       ∙ ap node_part (sym (add-one c))
 
--- values that were copied from the scratch board
-pub copied : {X : Type 0} (n : ℕ) (f : ℕ → Option X) (scratch scratch' values values' : List (Option X)) → n ≤ length scratch
-    → scratch' ≡ written n f scratch → values' ≡ written n (λ k. get_or scratch' k None) values → values' ≡ written n f values
-copied n f scratch scratch' values values' h e d =
-    d ∙ written_alike n (λ k. get_or scratch' k None) f values (λ k l. ap (λ ys. get_or ys k None) e ∙ written_at n f scratch k None l (omega arith))
+-- two boards that are written in full are alike
+written_full : {X : Type 0} (n : ℕ) (f : ℕ → X) (xs ys : List X) → length xs ≡ n → length ys ≡ n → written n f xs ≡ written n f ys
+written_full n f xs ys a b =
+    same_lists (written n f xs) (written n f ys) (omega (arith, length_written n f xs, length_written n f ys, a, b)) (λ k d h.
+    let l : k < n = omega (arith, h, length_written n f xs, a) in
+    written_at n f xs k d l (omega arith) ∙ sym (written_at n f ys k d l (omega arith)))
+
+-- values of which the front was copied from the scratch board
+pub copied : {X : Type 0} (n : ℕ) (f : ℕ → X) (scratch scratch' values : List X) → n ≤ length scratch → n ≤ length values
+    → scratch' ≡ written n f scratch → take n scratch' ++ drop n values ≡ written n f values
+copied n f scratch scratch' values h l e =
+    ap (λ xs. xs ++ drop n values)
+    (ap (take n) (e ∙ sym (written_front n f scratch h))
+    ∙ take_at (written n f (take n scratch)) (drop n scratch) n (omega (arith, length_written n f (take n scratch), length-take n scratch))
+    ∙ written_full n f (take n scratch) (take n values) (omega (arith, length-take n scratch)) (omega (arith, length-take n values)))
+    ∙ written_front n f values l
 
 module _ {R : Type 0} (t : Table) (values scratch sent : List (Option R)) (marks : List ℕ) (h : boards_fit t values scratch sent marks ≡ true) where
   first : (fits (cells_needed t) values ≡ true) × ((fits (cells_needed t) scratch && (fits (marks_needed t) sent && fits (marks_needed t) marks)) ≡ true)
@@ -54,12 +60,10 @@ module _ {R : Type 0} (t : Table) (values scratch sent : List (Option R)) (marks
   third = and_parts (fits (marks_needed t) sent) (fits (marks_needed t) marks) second.1
 
   -- boards that fit are long enough
-  pub room_of : Room t (length values) (length sent) (length marks)
-  room_of = record {
-    for_values = leb-true (cells_needed t) (length values) first.0;
-    for_sent = leb-true (marks_needed t) (length sent) third.0;
-    for_marks = leb-true (marks_needed t) (length marks) third.1;
-  }
-
-  pub scratch_of : cells_needed t ≤ length scratch
-  scratch_of = leb-true (cells_needed t) (length scratch) second.0
+  pub room_of : (cells_needed t ≤ length values) × (cells_needed t ≤ length scratch) × (marks_needed t ≤ length sent) × (marks_needed t ≤ length marks)
+  room_of = (
+    leb-true (cells_needed t) (length values) first.0,
+    leb-true (cells_needed t) (length scratch) second.0,
+    leb-true (marks_needed t) (length sent) third.0,
+    leb-true (marks_needed t) (length marks) third.1,
+  )

@@ -3,5 +3,6 @@
 
 pub mod close;
 mod ear;
+mod scene;
 
 pub use close::{boards_fit, close_step};

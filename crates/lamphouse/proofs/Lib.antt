@@ -1,5 +1,5 @@
 pub mod HexLaws
 pub mod AllLaws
-pub mod StripLaws
 pub mod WholeLine
+pub mod Enough
 pub mod RunLaws

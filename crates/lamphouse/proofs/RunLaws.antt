@@ -1,15 +1,16 @@
 -- What a participant hears and sends, as lists of numbers.
-use Rattle.std.proofs.Common.{◌≡◌, ℕ, ◌≤◌, List, ◌++◌, map, length, take, drop, Some, None, Ok, Err, Option, sym, refl, ap, ◌∙◌, arith}
+use Rattle.std.proofs.Common.{◌≡◌, ℕ, ◌≤◌, List, ◌++◌, map, length, take, drop, Some, None, Ok, Err, Option, Result, sym, refl, ap, ◌∙◌, arith}
 use Rattle.std.proofs.lemmas.List.{take_at, length-append, length-map}
 use Rattle.refusal.specs.declared.Refusal.{Refusal}
 use Rattle.refusal.specs.Refusals.{answered}
 use Rattle.board.specs.Setups.{if_accepted}
-use Rattle.law.specs.declared.calls.Answer.{Answer}
+use Rattle.law.specs.declared.calls.Told.{Told}
 use Rattle.law.specs.declared.calls.Call.{Call}
 use Rattle.law.specs.Runs.{run, history}
 use Rattle.play.specs.Moves.{call_says}
 use Rattle.play.proofs.Pushes.{length_says}
-use Rattle.participant.specs.Participants.{Held, heard_parts, hear_refusal, heard_calls, strip_move, strip_moves, with_world}
+use Rattle.participant.specs.Held.{Held}
+use Rattle.participant.specs.Participants.{heard_parts, hear_refusal, heard_calls, strip_move, strip_moves, with_world}
 use Rattle.lamphouse.specs.Runs.{answer_number, HeardSo}
 
 -- octets that were written to the front of a place
@@ -35,13 +36,13 @@ written_front None xs old new n k l e p =
     (refl, ap (take k) p ∙ take_at xs (drop n old) k (omega arith), omega arith)
 written_front (Some d) xs old new n k l e p = absurd (let z : ◌≡◌ {A = ℕ} 0 1 = cc in omega arith)
 
-module _ {R : Type 0} (meaning : R → ℕ) (w : ℕ) (reads : List ℕ → Option R) (h h' : Held R) (o : List ℕ) (old new : List (Answer R)) where
+module _ {R : Type 0} (meaning : R → ℕ) (w : ℕ) (reads : List ℕ → Option R) (h h' : Held R) (o : List ℕ) (old new : List (Result (Told R) Refusal)) where
   -- the calls of the message
   abbrev calls : List (Call R)
   calls = heard_calls w reads h (heard_parts w reads h o)
 
   -- what they answered
-  abbrev said : List (Answer R)
+  abbrev said : List (Result (Told R) Refusal)
   said = call_says (history meaning h.world (strip_moves h.strip calls))
 
   abbrev why : Option Refusal

@@ -1,5 +1,5 @@
 -- The line of one closing: its fields, and what it answers.
-use Rattle.std.specs.Prelude.{ℕ, min, Bool, cond, ◌&&◌, ◌||◌, List, [], ◌∷◌, length, drop, Some, None, Err, Option, Result, ◌==◌, nat_le, nat_lt, slice_index}
+use Rattle.std.specs.Prelude.{ℕ, min, Bool, cond, ◌||◌, List, [], ◌∷◌, length, drop, Some, None, Err, Option, Result, ◌==◌, nat_le, nat_lt, slice_index}
 use Rattle.std.specs.List.{slice_get}
 use Rattle.std.specs.Option.{option_map}
 use Rattle.refusal.specs.declared.Refusal.{Refusal}
@@ -9,12 +9,8 @@ use Rattle.coin.specs.Tosses.{strip_toss, strip_refusal}
 use Rattle.closing.specs.declared.types.ItemClose.{ItemClose}
 use Rattle.closing.specs.declared.types.Closed.{Closed}
 use Rattle.closing.specs.Closings.{item_answer}
-use Rattle.lines.specs.Fields.{fields}
-use Rattle.lines.specs.Digits.{and_then, decimal_of, hex_word_of, hex_octets_of}
-
--- whether a field is a dash
-abbrev pub is_dash : List ℕ → Bool
-is_dash f = length f == 1 && slice_index f 0 == 45
+use Rattle.lines.specs.Fields.{fields, number_at, is_dash}
+use Rattle.lines.specs.Digits.{and_then, hex_word_of, hex_octets_of}
 
 -- what every field gives, or none if one gives none
 abbrev pub all_of : {X : Type 0} → (List ℕ → Option X) → List (List ℕ) → Option (List X)
@@ -32,10 +28,6 @@ cell_of reads f = cond (is_dash f) (Some None) (and_then (hex_octets_of 8 f) (λ
 -- a mark: one octet in hexadecimal
 abbrev pub mark_in : List ℕ → Option ℕ
 mark_in f = option_map (λ os. slice_index os 0) (hex_octets_of 1 f)
-
--- the number in a field
-abbrev pub number_at : List (List ℕ) → ℕ → Option ℕ
-number_at fs i = and_then (slice_get fs i) decimal_of
 
 -- a number that is 0 or 1, as a flag
 abbrev pub flag_of : ℕ → Option Bool

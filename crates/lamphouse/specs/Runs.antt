@@ -1,21 +1,22 @@
 -- The lines of a run of one node: their fields, and what they answer.
-use Rattle.std.specs.Prelude.{◌≡◌, ℕ, not, ◌||◌, List, map, length, drop, Some, None, Err, Option, Result, ◌==◌, nat_lt}
+use Rattle.std.specs.Prelude.{◌≡◌, ℕ, not, ◌||◌, List, map, length, drop, Some, None, Ok, Err, Option, Result, ◌==◌, nat_lt}
 use Rattle.std.specs.List.{slice_get}
 use Rattle.std.specs.Option.{ok_or}
 use Rattle.refusal.specs.declared.Refusal.{Refusal}
 use Rattle.refusal.specs.declared.Refusal.TheVariants.{Torn, StrangeLetter, StrangeReading}
 use Rattle.refusal.specs.Refusals.{number, refuse, unless, answered}
 use Rattle.board.specs.Setups.{if_accepted}
-use Rattle.law.specs.declared.calls.Answer.{Answer}
-use Rattle.law.specs.declared.calls.Answer.TheVariants.{Refused, Done, Open, Decided, Count}
+use Rattle.law.specs.declared.calls.Told.{Told}
 use Rattle.law.specs.Runs.{run, history}
 use Rattle.play.specs.Moves.{call_says}
 use Rattle.lines.specs.Digits.{and_then, hex_octets_of}
+use Rattle.lines.specs.Fields.{number_at}
+use Rattle.reading.specs.declared.kind.Kind.{Kind}
 use Rattle.participant.specs.declared.state.Participant.{Participant}
-use Rattle.participant.specs.Participants.{Held, begin_refusal, Begins, heard_parts, hear_refusal, heard_calls, strip_moves, with_world}
+use Rattle.participant.specs.Held.{Held}
+use Rattle.participant.specs.Participants.{begin_refusal, Begins, heard_parts, hear_refusal, heard_calls, strip_moves, with_world}
 use Rattle.lamphouse.specs.declared.begin.Start.{Start}
-use Rattle.lamphouse.specs.declared.kind.Kind.{Kind}
-use Rattle.lamphouse.specs.Grammar.{all_of, cell_of, entries_of, number_at}
+use Rattle.lamphouse.specs.Grammar.{all_of, cell_of, entries_of}
 use Rattle.lamphouse.specs.Kinds.{kind_at}
 
 -- the kind of a run that a line begins: field 1, where there are 7 to 22 fields
@@ -61,12 +62,9 @@ abbrev pub step_refusal : List (List ℕ) → Option Refusal
 step_refusal fs = refuse (not (length fs == 1)) StrangeLetter None
 
 -- the number of an answer: that of its refusal, or else 0
-abbrev pub answer_number : {R : Type 0} → Answer R → ℕ
-answer_number (Refused e) = number e
-answer_number Done = 0
-answer_number Open = 0
-answer_number (Decided x) = 0
-answer_number (Count k) = 0
+abbrev pub answer_number : {R : Type 0} → Result (Told R) Refusal → ℕ
+answer_number (Ok t) = 0
+answer_number (Err e) = number e
 
 -- What hearing octets as a message leaves: the number of what each call answered, where there are so many places for answers, and the participant after those calls.
 pub record HeardSo {R : Type 0} (meaning : R → ℕ) (w : ℕ) (reads : List ℕ → Option R) (places : ℕ) (h h' : Held R) (o : List ℕ) (r : Result (List ℕ) Refusal) : Type 0 where

@@ -1,26 +1,19 @@
 //! The fields of a line, each read as what it stands for.
 ghost use Rattle.std.specs.Prelude.{◌≡◌, ℕ, List, Option};
-ghost use Rattle.lamphouse.specs.Grammar.{is_dash, cell_of, mark_in, number_at, flag_of, close_of};
+ghost use Rattle.lamphouse.specs.Grammar.{cell_of, mark_in, flag_of, close_of};
 ghost use Rattle.lines.specs.Digits.{hex_word_of};
 ghost use Rattle.lines.specs.Fields.{fields};
 
 use closing::ItemClose;
-use lines::{decimal, field, hex_octets, hex_word};
+use lines::{dash, hex_octets, hex_word, number};
 use reading::Reading;
 
-// What one field of a list stands for.
+// What one field of a list stands for. The console has a trait of this form too: its fields spell bits in decimal and cells in words.
 pub trait Parse: Copy {
     ghost parses: { List ℕ → Option Self };
 
     fn parse(field: &[u8]) -> Option<Self>
         ensures { result ≡ parses field.now };
-}
-
-// Whether a field is a dash.
-pub fn dash(field: &[u8]) -> bool
-    ensures { result ≡ is_dash field.now }
-{
-    field.len() == 1 && field[0] == b'-'
 }
 
 // A strip's entry: four hexadecimal digits.
@@ -53,19 +46,8 @@ impl<R: Reading> Parse for Option<R> {
         }
         let mut octets = [0; 8];
         let count = hex_octets(field, &mut octets)?;
-        match R::read(&octets[0..count]) {
-            Ok(r) => Some(Some(r)),
-            Err(_) => None,
-        }
+        R::read(&octets[..count]).ok().map(Some)
     }
-}
-
-// The number in a field of the line.
-pub fn number(line: &[u8], index: usize) -> Option<usize>
-    ensures { result ≡ number_at (fields 32 line.now) index }
-{
-    let number = decimal(field(line, b' ', index)?)?;
-    Some(number as usize)
 }
 
 // The flag in a field of the line: the number 0 or 1.
@@ -79,12 +61,12 @@ fn flag(number: usize) -> Option<bool>
 pub fn parse_close(line: &[u8]) -> Option<ItemClose>
     ensures { result ≡ close_of (fields 32 line.now) }
 {
-    let n = number(line, 1)?;
-    let node = number(line, 2)?;
-    let step = number(line, 3)?;
-    let item = number(line, 4)?;
-    let bit = number(line, 5)?.min(255) as u8;
-    let decided = flag(number(line, 6)?)?;
+    let n = number(line, b' ', 1)?;
+    let node = number(line, b' ', 2)?;
+    let step = number(line, b' ', 3)?;
+    let item = number(line, b' ', 4)?;
+    let bit = number(line, b' ', 5)?.min(255) as u8;
+    let decided = flag(number(line, b' ', 6)?)?;
     Some(ItemClose {
         n,
         node,

@@ -3,10 +3,9 @@ use participant::Participant;
 use reading::bearing::Bearing;
 use reading::lamp::Lamp;
 
-// The run of one node, of either kind, once one was begun.
+// The run of one node, of either kind.
 #[derive(Drop)]
 pub enum Post {
-    Idle,
     Bearings(Participant<Bearing>),
     Lamps(Participant<Lamp>),
 }

@@ -1,42 +1,43 @@
 //! One line: what it asks for, and what it answers.
-ghost use Rattle.std.specs.Prelude.{◌≡◌, ℕ, [], drop, IfOk, if◌then◌else◌, Some, vec_items};
+ghost use Rattle.std.specs.Prelude.{◌≡◌, ℕ, [], drop, if◌then◌else◌, Some, vec_items};
 ghost use Rattle.lamphouse.specs.Grammar.{all_of, entries_of, gives_cells, cells_in, marks_in, strip_answer, fields_answer};
 ghost use Rattle.lines.specs.Fields.{fields};
 ghost use Rattle.lines.specs.Walk.{to_come};
-ghost use Rattle.std.specs.Option.{option_map};
+ghost use Rattle.refusal.specs.Failures.{IfEnough};
+ghost use Rattle.refusal.specs.declared.Refusal.TheVariants.{StrangeReading};
+ghost use Rattle.std.specs.Option.{ok_or};
+ghost use Rattle.std.specs.Result.{result_map_both};
 
-use super::parse::{Parse, dash, parse_close};
+use super::parse::{Parse, parse_close};
 use closing::item::close_item;
 use closing::{Closed, ItemClose};
 use coin::Strip;
-use lines::{Fields, count_fields, field};
+use lines::{Fields, count_fields, dash, field};
 use reading::Reading;
-use refusal::Refusal;
-use std::alloc::{AllocError, Global};
+use refusal::{Failure, Refusal};
+use std::alloc::Global;
 
-// What every field that is to come stands for, or nothing if one stands for none.
-pub fn parse_all<T: Parse>(heap: Global, mut walk: Fields<'_>) -> Result<Option<Vec<T>>, AllocError>
-    ensures { IfOk result (λ o. option_map vec_items o ≡ all_of T.Parse.parses (to_come walk.entry)) }
+// What every field that is to come stands for. They are strange if one stands for nothing.
+pub fn parse_all<T: Parse>(heap: Global, walk: Fields<'_>) -> Result<Vec<T>, Failure>
+    ensures { IfEnough result (λ a. result_map_both vec_items (λ e. e) a ≡ ok_or (all_of T.Parse.parses (to_come walk.entry)) StrangeReading) }
 {
+    // A `try_collect` says nothing of a field that fails.
     let mut list = Vec::new(heap);
-    while let Some(field) = walk.next() {
-        let Some(x) = T::parse(field) else {
-            return Ok(None);
-        };
-        list.push(x)?;
+    for field in walk {
+        list.push(T::parse(field).ok_or(Refusal::StrangeReading)?)?;
     }
-    Ok(Some(list))
+    Ok(list)
 }
 
 // The entries of a strip.
-pub fn parse_entries(heap: Global, field: &[u8]) -> Result<Option<Vec<u16>>, AllocError>
-    ensures { IfOk result (λ o. option_map vec_items o ≡ entries_of field.now) }
+pub fn parse_entries(heap: Global, field: &[u8]) -> Result<Vec<u16>, Failure>
+    ensures { IfEnough result (λ a. result_map_both vec_items (λ e. e) a ≡ ok_or (entries_of field.now) StrangeReading) }
 {
     if dash(field) {
-        return Ok(Some(Vec::new(heap)));
+        return Ok(Vec::new(heap));
     }
     if count_fields(field, b',') > 8 {
-        return Ok(None);
+        return Err(Failure::Refused(Refusal::StrangeReading));
     }
     parse_all(heap, Fields::new(field, b','))
 }
@@ -60,17 +61,13 @@ fn gives_cells(close: &ItemClose) -> bool
 }
 
 // What was heard, in the fields from 8 on, where it is wanted; else nothing.
-fn parse_heard<T: Parse>(
-    heap: Global,
-    wanted: bool,
-    line: &[u8],
-) -> Result<Option<Vec<T>>, AllocError>
-    ensures { IfOk result (λ o. option_map vec_items o ≡ (if wanted then all_of T.Parse.parses (drop 8 (fields 32 line.now)) else Some [])) }
+fn parse_heard<T: Parse>(heap: Global, wanted: bool, line: &[u8]) -> Result<Vec<T>, Failure>
+    ensures { IfEnough result (λ a. result_map_both vec_items (λ e. e) a ≡ ok_or (if wanted then all_of T.Parse.parses (drop 8 (fields 32 line.now)) else Some []) StrangeReading) }
 {
     if wanted {
         parse_all(heap, fields_from(line, 8))
     } else {
-        Ok(Some(Vec::new(heap)))
+        Ok(Vec::new(heap))
     }
 }
 
@@ -83,38 +80,22 @@ fn close_by_strip<'a, R: Reading>(
 ) -> Result<Closed<R>, Refusal>
     ensures { result ≡ strip_answer R.Reading.meaning R.Reading.reads close entries.now cells.now marks.now }
 {
-    match Strip::new(entries) {
-        Ok(strip) => close_item(close, &strip, cells, marks),
-        Err(refusal) => Err(refusal),
-    }
+    let strip = Strip::new(entries)?;
+    close_item(close, &strip, cells, marks)
 }
 
 // What a line of this kind answers.
-pub fn answer_line<R: Reading>(
-    heap: Global,
-    line: &[u8],
-) -> Result<Result<Closed<R>, Refusal>, AllocError>
-    ensures { IfOk result (λ a. a ≡ fields_answer R.Reading.meaning R.Reading.reads (fields 32 line.now)) }
+pub fn answer_line<R: Reading>(heap: Global, line: &[u8]) -> Result<Closed<R>, Failure>
+    ensures { IfEnough result (λ a. a ≡ fields_answer R.Reading.meaning R.Reading.reads (fields 32 line.now)) }
 {
-    let count = count_fields(line, b' ');
-    if count < 8 || count > 24 {
-        return Ok(Err(Refusal::Torn));
+    if !(8..=24).contains(&count_fields(line, b' ')) {
+        return Err(Failure::Refused(Refusal::Torn));
     }
-    let Some(close) = parse_close(line) else {
-        return Ok(Err(Refusal::StrangeReading));
-    };
-    let Some(entries) = field(line, b' ', 7) else {
-        return Ok(Err(Refusal::StrangeReading));
-    };
-    let Some(entries) = parse_entries(heap, entries)? else {
-        return Ok(Err(Refusal::StrangeReading));
-    };
+    let close = parse_close(line).ok_or(Refusal::StrangeReading)?;
+    let entries = field(line, b' ', 7).ok_or(Refusal::StrangeReading)?;
+    let entries = parse_entries(heap, entries)?;
     let in_cells = gives_cells(&close);
-    let Some(cells) = parse_heard::<Option<R>>(heap, in_cells, line)? else {
-        return Ok(Err(Refusal::StrangeReading));
-    };
-    let Some(marks) = parse_heard::<u8>(heap, !in_cells, line)? else {
-        return Ok(Err(Refusal::StrangeReading));
-    };
-    Ok(close_by_strip(close, &entries, &cells, &marks))
+    let cells = parse_heard::<Option<R>>(heap, in_cells, line)?;
+    let marks = parse_heard::<u8>(heap, !in_cells, line)?;
+    Ok(close_by_strip(close, &entries, &cells, &marks)?)
 }

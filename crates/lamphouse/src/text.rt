@@ -1,23 +1,23 @@
 //! The text of a cell.
-ghost use Rattle.std.specs.Prelude.{◌≤◌};
-
+use super::cell::cell_octets;
+use reading::Reading;
 use std::fmt;
 
-// The octets of a reading, and none of them for none.
-#[derive(Drop)]
-pub struct CellText {
-    pub octets: [u8; 8],
-    pub count: usize,
-    ghost room: { count ≤ 8 },
+// A cell as it is printed.
+#[derive(Clone, Copy)]
+pub struct CellText<'a, R> {
+    pub cell: &'a Option<R>,
 }
 
-// Writes a dash for none, or the octets in hexadecimal.
-impl fmt::Display for CellText {
+// Writes a dash for none, or the reading's octets in hexadecimal.
+impl<'a, R: Reading> fmt::Display for CellText<'a, R> {
     fn fmt<W: fmt::Write>(&self, f: &mut fmt::Formatter<W>) -> fmt::Result {
-        if self.count == 0 {
+        let mut place = [0; 8];
+        let octets = cell_octets(self.cell, &mut place);
+        if octets.is_empty() {
             return f.write_str("-");
         }
-        for octet in &self.octets[0..self.count] {
+        for octet in octets {
             write!(f, "{octet:02X}")?;
         }
         Ok(())

@@ -1,6 +1,6 @@
 -- One item as the honest nodes stand with it, and what a close makes of it.
 use Rattle.std.proofs.Common.{◌≡◌, ℕ, suc, ◌+◌, ◌*◌, ◌<◌, ◌≤◌, Bool, true, false, cond, ◌||◌, List, map, Option, refl, ap, ◌∙◌, arith}
-use Rattle.std.proofs.lemmas.Bool.{true≢false, false≢true}
+use Rattle.std.proofs.lemmas.Bool.{false≢true}
 use Rattle.std.specs.List.{range_with_len}
 use Rattle.coin.specs.Tosses.{toss_of}
 use Rattle.closing.specs.declared.types.Phase.{Phase}
@@ -48,92 +48,49 @@ timely_next Toss k t = record { begun = omega arith; early = λ e. absurd (false
 
 -- a close raises the step by 1
 pub step_next : (p : Phase) (k : ℕ) → Timely p k → step_number (next_phase p) (next_round p k) ≡ suc (step_number p k)
-step_next Poll k t = refl
-step_next Echo k t = let e = t.early refl in omega arith
-step_next ToZero k t = omega arith
-step_next ToOne k t = omega arith
-step_next Toss k t = omega arith
+step_next p k t = grind arith
 
 -- bits are sent in the steps from 3 on
 pub late_step : (p : Phase) (k : ℕ) → Timely p k → sends_cells p ≡ false → 3 ≤ step_number p k
-late_step Poll k t e = absurd (true≢false e)
-late_step Echo k t e = absurd (true≢false e)
-late_step ToZero k t e = let b = t.begun in omega arith
-late_step ToOne k t e = let b = t.begun in omega arith
-late_step Toss k t e = let b = t.begun in omega arith
+late_step p k t e = grind arith
 
 pub step_late : (p : Phase) (k : ℕ) → 3 ≤ step_number p k → sends_cells p ≡ false
-step_late Poll k h = absurd (omega arith)
-step_late Echo k h = absurd (omega arith)
-step_late ToZero k h = refl
-step_late ToOne k h = refl
-step_late Toss k h = refl
+step_late p k h = grind arith
 
 -- the phases by the step's number
 pub zero_step : (p : Phase) (k r : ℕ) → 1 ≤ r → step_number p k ≡ 3 * r → p ≡ ToZero
-zero_step Poll k r h e = absurd (omega arith)
-zero_step Echo k r h e = absurd (omega arith)
-zero_step ToZero k r h e = refl
-zero_step ToOne k r h e = absurd (omega arith)
-zero_step Toss k r h e = absurd (omega arith)
+zero_step p k r h e = grind arith
 
 pub one_step : (p : Phase) (k r : ℕ) → 1 ≤ r → step_number p k ≡ 3 * r + 1 → p ≡ ToOne
-one_step Poll k r h e = absurd (omega arith)
-one_step Echo k r h e = absurd (omega arith)
-one_step ToZero k r h e = absurd (omega arith)
-one_step ToOne k r h e = refl
-one_step Toss k r h e = absurd (omega arith)
+one_step p k r h e = grind arith
 
 pub toss_step : (p : Phase) (k r : ℕ) → 1 ≤ r → step_number p k ≡ 3 * r + 2 → (p ≡ Toss) × (k ≡ r)
-toss_step Poll k r h e = absurd (omega arith)
-toss_step Echo k r h e = absurd (omega arith)
-toss_step ToZero k r h e = absurd (omega arith)
-toss_step ToOne k r h e = absurd (omega arith)
-toss_step Toss k r h e = (refl, omega arith)
+toss_step p k r h e = grind arith
 
 module _ (R : Type 0) where
   voted_bit : (d b x y old : Bool) → new_bit {R = R} (cond d (Voted b true) (Voted x y)) old ≡ cond d b x
-  voted_bit true b x y old = refl
-  voted_bit false b x y old = refl
+  voted_bit d b x y old = grind arith
 
   voted_decided : (d b x y old : Bool) → new_decided {R = R} (cond d (Voted b true) (Voted x y)) old ≡ (d || y)
-  voted_decided true b x y old = refl
-  voted_decided false b x y old = refl
+  voted_decided d b x y old = grind arith
 
   voted_value : (d b x y : Bool) (old : Option R) → new_value (cond d (Voted b true) (Voted x y)) old ≡ old
-  voted_value true b x y old = refl
-  voted_value false b x y old = refl
+  voted_value d b x y old = grind arith
 
 module _ {R : Type 0} (meaning : R → ℕ) (f : Tosses) (p : Step) (s : ItemState) (cells : List (Option R)) (marks : List ℕ) where
   late_value : (h : Phase) → sends_cells h ≡ false → (old : Option R) → new_value (closed_in h meaning f p s cells marks) old ≡ old
-  late_value Poll e old = absurd (true≢false e)
-  late_value Echo e old = absurd (true≢false e)
-  late_value ToZero e old = voted_value R s.decided s.bit _ _ old
-  late_value ToOne e old = voted_value R s.decided s.bit _ _ old
-  late_value Toss e old = voted_value R s.decided s.bit _ _ old
+  late_value h e old = grind arith
 
   late_bit : (h : Phase) → sends_cells h ≡ false → (old : Bool) → new_bit (closed_in h meaning f p s cells marks) old
       ≡ cond s.decided s.bit (vote h p.quorum (toss_of f s.node p.round s.item) marks).0
-  late_bit Poll e old = absurd (true≢false e)
-  late_bit Echo e old = absurd (true≢false e)
-  late_bit ToZero e old = voted_bit R s.decided s.bit _ _ old
-  late_bit ToOne e old = voted_bit R s.decided s.bit _ _ old
-  late_bit Toss e old = voted_bit R s.decided s.bit _ _ old
+  late_bit h e old = grind arith
 
   late_decided : (h : Phase) → sends_cells h ≡ false → (old : Bool) → new_decided (closed_in h meaning f p s cells marks) old
       ≡ (s.decided || (vote h p.quorum (toss_of f s.node p.round s.item) marks).1)
-  late_decided Poll e old = absurd (true≢false e)
-  late_decided Echo e old = absurd (true≢false e)
-  late_decided ToZero e old = voted_decided R s.decided s.bit _ _ old
-  late_decided ToOne e old = voted_decided R s.decided s.bit _ _ old
-  late_decided Toss e old = voted_decided R s.decided s.bit _ _ old
+  late_decided h e old = grind arith
 
   early_decided : (h : Phase) → sends_cells h ≡ true → (old : Bool) → new_decided (closed_in h meaning f p s cells marks) old ≡ old
-  early_decided Poll e old = refl
-  early_decided Echo e old = refl
-  early_decided ToZero e old = absurd (false≢true e)
-  early_decided ToOne e old = absurd (false≢true e)
-  early_decided Toss e old = absurd (false≢true e)
+  early_decided h e old = grind arith
 
 module _ {R : Type 0} (meaning : R → ℕ) (n : ℕ) (faulty : ℕ → Bool) (q w c : ℕ) where
   -- what node j makes of what it heard

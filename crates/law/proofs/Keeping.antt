@@ -1,17 +1,17 @@
 -- What every run keeps to, from a world in which each item is at a stage.
-use Rattle.std.proofs.Common.{◌≡◌, ℕ, ◌<◌, ◌≤◌, Bool, true, false, cond, ◌⊎◌, List, ◌++◌, take, Some, None, Option, sym, refl, ap, ◌∙◌, subst, ap₂, inl, inr, arith}
+use Rattle.std.proofs.Common.{◌≡◌, ℕ, ◌<◌, ◌≤◌, Bool, true, false, cond, ◌⊎◌, List, ◌++◌, take, Some, None, Option, sym, refl, ap, ◌∙◌, subst, ap₂, inl, inr, arith, Ok, Err, Result, is_err}
 use Rattle.std.proofs.lemmas.Bool.{true≢false, both_ways, cases_lt}
+use Rattle.refusal.specs.declared.Refusal.{Refusal}
 use Rattle.refusal.specs.declared.Refusal.TheVariants.{Over}
 use Rattle.closing.specs.Counting.{quorum_of, weak_quorum_of}
 use Rattle.closing.specs.Closings.{sends_cells}
 use Rattle.closing.specs.declared.types.Phase.{Phase}
-use Rattle.closing.specs.declared.types.Phase.TheVariants.{Poll, Echo, ToZero, ToOne, Toss}
 use Rattle.board.specs.Tables.{bit_at, decided_at, value_at}
 use Rattle.board.specs.declared.states.Decision.TheVariants.{Undecided, Decided}
 use Rattle.law.specs.declared.calls.Call.TheVariants as call
-use Rattle.law.specs.declared.calls.Answer.{Answer}
-use Rattle.law.specs.declared.calls.Answer.TheVariants as answer
-use Rattle.law.specs.Runs.{Tosses, World, Move, Asked, Ask, is_refused, decision_answer, run, history, outcome_history}
+use Rattle.law.specs.declared.calls.Told.{Told}
+use Rattle.law.specs.declared.calls.Told.TheVariants.{Done, Decision}
+use Rattle.law.specs.Runs.{Tosses, World, Move, Asked, Ask, run, history, outcome_history}
 use Rattle.law.specs.Law.{Same, DecisionAt, CloseAt, PastFour}
 use Rattle.law.proofs.Quorums.{Quorum}
 use Rattle.law.proofs.Leads.{cases_option, some_none, some_inj}
@@ -25,32 +25,21 @@ use Rattle.law.proofs.Overs.{over_decided}
 
 -- the first step sends cells
 first_early : (p : Phase) (k : ℕ) → Timely p k → step_number p k ≡ 1 → sends_cells p ≡ true
-first_early Poll k t e = refl
-first_early Echo k t e = refl
-first_early ToZero k t e = let b = t.begun in absurd (omega arith)
-first_early ToOne k t e = let b = t.begun in absurd (omega arith)
-first_early Toss k t e = absurd (omega arith)
+first_early p k t e = grind arith
 
 module _ {R : Type 0} (meaning : R → ℕ) where
   pub same_sym : (x y : Option R) → Same meaning x y → Same meaning y x
-  same_sym (Some a) (Some b) h = sym h
-  same_sym (Some a) None h = h
-  same_sym None (Some b) h = h
-  same_sym None None h = h
+  same_sym x y h = grind arith
 
   same_held : (v : ℕ) (x y : Option R) → (r : R) × (x ≡ Some r) × (meaning r ≡ v) → (r : R) × (y ≡ Some r) × (meaning r ≡ v) → Same meaning x y
   same_held v x y a b =
       subst (λ u. Same meaning u y) (sym a.1) (subst (λ u. Same meaning (Some a.0) u) (sym b.1) (a.2 ∙ sym b.2))
 
   same_some : (r : R) (x y : Option R) → x ≡ Some r → Same meaning x y → (r' : R) × (y ≡ Some r') × (meaning r' ≡ meaning r)
-  same_some r (Some a) (Some b) e h = let z : a ≡ r = cc in (b, refl, sym h ∙ ap meaning z)
-  same_some r (Some a) None e h = absurd h
-  same_some r None y e h = absurd (some_none r None e refl)
+  same_some r x y e h = grind arith
 
   same_none : (x y : Option R) → x ≡ None → Same meaning x y → y ≡ None
-  same_none (Some a) y e h = absurd (some_none a (Some a) refl e)
-  same_none None (Some b) e h = absurd h
-  same_none None None e h = refl
+  same_none x y e h = grind arith
 
 module _ {R : Type 0} (meaning : R → ℕ) (n m : ℕ) (faulty : ℕ → Bool) (Q : Quorum n faulty (quorum_of n) (weak_quorum_of n))
     (start : ℕ → ℕ → Option R) (w : World R) (g : Fits n m faulty w)
@@ -89,13 +78,13 @@ module _ {R : Type 0} (meaning : R → ℕ) (n m : ℕ) (faulty : ℕ → Bool) 
       between c p q lc l (AllDecided meaning n faulty) (λ f x y k s. stays_decided meaning n faulty (quorum_of n) (weak_quorum_of n) c Q f x y k s) d
 
   -- What a decision that was not refused tells: of which node and item, and what stood there.
-  pub record Found (p i c : ℕ) (a : Answer R) : Type 0 where
+  pub record Found (p i c : ℕ) (a : Result (Told R) Refusal) : Type 0 where
     pub node : i < n
     pub item : c < m
     pub honest : faulty i ≡ false
     pub said : Says (world_at p) i c a
 
-  pub found : (p i c : ℕ) (a : Answer R) → DecisionAt calls p i c a → is_refused a ≡ false → Found p i c a
+  pub found : (p i c : ℕ) (a : Result (Told R) Refusal) → DecisionAt calls p i c a → is_err a ≡ false → Found p i c a
   found p i c a h r =
       let z = place meaning w vs qs p (call.Decision i c) a h in
       let s = decision_says (world_at p) z.0 i c a z.1 r in
@@ -114,11 +103,11 @@ module _ {R : Type 0} (meaning : R → ℕ) (n m : ℕ) (faulty : ℕ → Bool) 
       let h = k.held refl in
       same_held meaning h.0 ((item_of (world_at p) c).value i) ((item_of (world_at p) c).value j) (h.2 i li si) (h.2 j lj sj)
 
-  agree_after : (i j c p q : ℕ) (x y : Option R) → p ≤ q → DecisionAt calls p i c (answer.Decided x) → DecisionAt calls q j c (answer.Decided y) →
+  agree_after : (i j c p q : ℕ) (x y : Option R) → p ≤ q → DecisionAt calls p i c (Ok (Decision (Decided x))) → DecisionAt calls q j c (Ok (Decision (Decided y))) →
       Same meaning x y × (i ≡ j → x ≡ y)
   agree_after i j c p q x y l hx hy =
-      let a = found p i c (answer.Decided x) hx refl in
-      let b = found q j c (answer.Decided y) hy refl in
+      let a = found p i c (Ok (Decision (Decided x))) hx refl in
+      let b = found q j c (Ok (Decision (Decided y))) hy refl in
       let dx = says_decided (world_at p) i c x a.said in
       let dy = says_decided (world_at q) j c y b.said in
       let bi = (item_of (world_at p) c).bit i in
@@ -131,30 +120,30 @@ module _ {R : Type 0} (meaning : R → ℕ) (n m : ℕ) (faulty : ℕ → Bool) 
         λ e. dx.1 ∙ ap (λ u. cond bi None ((item_of (world_at p) c).value u)) e ∙ sym ey,
       )
 
-  pub agreement : (i j c p q : ℕ) (x y : Option R) → DecisionAt calls p i c (answer.Decided x) → DecisionAt calls q j c (answer.Decided y) → Same meaning x y
+  pub agreement : (i j c p q : ℕ) (x y : Option R) → DecisionAt calls p i c (Ok (Decision (Decided x))) → DecisionAt calls q j c (Ok (Decision (Decided y))) → Same meaning x y
   agreement i j c p q x y hx hy = elim (cases_lt p q) [
     | inl l ↦ (agree_after i j c p q x y (omega arith) hx hy).0
     | inr l ↦ same_sym meaning y x (agree_after j i c q p y x l hy hx).0
   ]
 
-  pub unchanging : (i c p q : ℕ) (x y : Option R) → DecisionAt calls p i c (answer.Decided x) → DecisionAt calls q i c (answer.Decided y) → x ≡ y
+  pub unchanging : (i c p q : ℕ) (x y : Option R) → DecisionAt calls p i c (Ok (Decision (Decided x))) → DecisionAt calls q i c (Ok (Decision (Decided y))) → x ≡ y
   unchanging i c p q x y hx hy = elim (cases_lt p q) [
     | inl l ↦ (agree_after i i c p q x y (omega arith) hx hy).1 refl
     | inr l ↦ sym ((agree_after i i c q p y x l hy hx).1 refl)
   ]
 
-  pub lasting : (i c p q : ℕ) (x : Option R) → DecisionAt calls p i c (answer.Decided x) → p < q → DecisionAt calls q i c answer.Open → ⊥
+  pub lasting : (i c p q : ℕ) (x : Option R) → DecisionAt calls p i c (Ok (Decision (Decided x))) → p < q → DecisionAt calls q i c (Ok (Decision Undecided)) → ⊥
   lasting i c p q x hx l hy =
-      let a = found p i c (answer.Decided x) hx refl in
-      let b = found q i c answer.Open hy refl in
+      let a = found p i c (Ok (Decision (Decided x))) hx refl in
+      let b = found q i c (Ok (Decision Undecided)) hy refl in
       let dx = says_decided (world_at p) i c x a.said in
       let k = known meaning n faulty (λ i. start i c) (item_of (world_at p) c) i a.node a.honest (stage_at c p a.item) dx.0 in
       let gr = grows_between c p q a.item (omega arith) k.late in
       both_ways (decided_at (world_at q).state.table i c) (says_open (world_at q) i c b.said) (gr.decided i a.node a.honest dx.0)
 
-  pub majority : (i c p : ℕ) (r : R) → DecisionAt calls p i c (answer.Decided (Some r)) → Majority meaning n faulty (λ i. start i c) (meaning r)
+  pub majority : (i c p : ℕ) (r : R) → DecisionAt calls p i c (Ok (Decision (Decided (Some r)))) → Majority meaning n faulty (λ i. start i c) (meaning r)
   majority i c p r h =
-      let a = found p i c (answer.Decided (Some r)) h refl in
+      let a = found p i c (Ok (Decision (Decided (Some r)))) h refl in
       let d = says_decided (world_at p) i c (Some r) a.said in
       go a.node a.honest ((item_of (world_at p) c).bit i) (known meaning n faulty (λ i. start i c) (item_of (world_at p) c) i a.node a.honest (stage_at c p a.item) d.0) d.1
     where
@@ -173,19 +162,19 @@ module _ {R : Type 0} (meaning : R → ℕ) (n m : ℕ) (faulty : ℕ → Bool) 
         (sends_cells (item_of (world_at p) c).phase ≡ false) × ((5 ≤ step_in (world_at p)) ⊎ AllDecided meaning n faulty (item_of (world_at p) c))
     past_four c p lc z = go z.3
       where
-        go : CloseAt calls z.0 answer.Done ⊎ CloseAt calls z.0 (answer.Refused Over) →
+        go : CloseAt calls z.0 (Ok Done) ⊎ CloseAt calls z.0 (Err Over) →
             (sends_cells (item_of (world_at p) c).phase ≡ false) × ((5 ≤ step_in (world_at p)) ⊎ AllDecided meaning n faulty (item_of (world_at p) c))
         go (inl e) =
             let s = steps_behind meaning n m faulty w vs qs p g in
             let four = z.2 in
-            let k = close_counts calls z.0 p (record { call = call.Close; answer = answer.Done }) z.1 e refl in
+            let k = close_counts calls z.0 p (record { call = call.Close; answer = Ok Done }) z.1 e refl in
             let five : 5 ≤ step_in (world_at p) = omega arith in
             (step_late (world_at p).state.phase (world_at p).state.round (omega arith), inl five)
         go (inr e) =
             let s = steps_behind meaning n m faulty w vs qs z.0 g in
             let four = z.2 in
             let at : step_in (world_at z.0) ≡ 4 = omega arith in
-            let pl = place meaning w vs qs z.0 call.Close (answer.Refused Over) e in
+            let pl = place meaning w vs qs z.0 call.Close (Err Over) e in
             let o = over_says (world_at z.0) pl.0 pl.1 in
             let k = fits_at z.0 in
             let late = step_late (world_at z.0).state.phase (world_at z.0).state.round (omega arith) in
@@ -196,16 +185,16 @@ module _ {R : Type 0} (meaning : R → ℕ) (n m : ℕ) (faulty : ℕ → Bool) 
             )
 
     -- the answer where a node has decided
-    answers : (p i c : ℕ) (a : Answer R) (b : Bool) (o y : Option R) → Says (world_at p) i c a → decided_at (world_at p).state.table i c ≡ true →
+    answers : (p i c : ℕ) (a : Result (Told R) Refusal) (b : Bool) (o y : Option R) → Says (world_at p) i c a → decided_at (world_at p).state.table i c ≡ true →
         bit_at (world_at p).state.table i c ≡ b → value_at (world_at p).state.table (world_at p).values i c ≡ o → Same meaning (cond b None o) y →
-        (x : Option R) × (a ≡ answer.Decided x) × Same meaning x y
+        (x : Option R) × (a ≡ Ok (Decision (Decided x))) × Same meaning x y
     answers p i c a b o y s d e f h =
-        (cond b None o, s.says ∙ (λ z. decision_answer (cond (d z) (Decided (cond (e z) None (f z))) Undecided)), h)
+        (cond b None o, s.says ∙ (λ z. Ok (Decision (cond (d z) (Decided (cond (e z) None (f z))) Undecided))), h)
 
     pub unanimity : (c : ℕ) → ((i : ℕ) → i < n → faulty i ≡ false → c < m → (item_of w c).value i ≡ start i c) →
         ((i j : ℕ) → i < n → faulty i ≡ false → j < n → faulty j ≡ false → Same meaning (start i c) (start j c)) →
-        (i p : ℕ) (a : Answer R) → PastFour calls p → DecisionAt calls p i c a → is_refused a ≡ false →
-        (x : Option R) × (a ≡ answer.Decided x) × Same meaning x (start i c)
+        (i p : ℕ) (a : Result (Told R) Refusal) → PastFour calls p → DecisionAt calls p i c a → is_err a ≡ false →
+        (x : Option R) × (a ≡ Ok (Decision (Decided x))) × Same meaning x (start i c)
     unanimity c o all i p a z h r =
         let s = found p i c a h r in
         let l = past_four c p s.item z in
@@ -213,7 +202,7 @@ module _ {R : Type 0} (meaning : R → ℕ) (n m : ℕ) (faulty : ℕ → Bool) 
       where
         go : i < n → c < m → faulty i ≡ false → Says (world_at p) i c a → sends_cells (item_of (world_at p) c).phase ≡ false →
             (5 ≤ step_in (world_at p)) ⊎ AllDecided meaning n faulty (item_of (world_at p) c) → (start i c ≡ None) ⊎ ((r : R) × (start i c ≡ Some r)) →
-            (x : Option R) × (a ≡ answer.Decided x) × Same meaning x (start i c)
+            (x : Option R) × (a ≡ Ok (Decision (Decided x))) × Same meaning x (start i c)
         go li lc si sd late k (inl e) =
             let y = run_keeps meaning n m faulty c lc (Empty meaning n faulty) (λ f x y k s. empty_closes meaning n faulty (quorum_of n) (weak_quorum_of n) c Q f x y k s) w (take p vs) g
             (record {

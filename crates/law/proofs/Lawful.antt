@@ -1,22 +1,24 @@
 -- The law.
-use Rattle.std.proofs.Common.{◌≡◌, ℕ, ◌+◌, ◌*◌, ◌<◌, ◌≤◌, Bool, not, ◌&&◌, ◌⊎◌, List, [], ◌∷◌, ◌++◌, map, get_or, take, Some, None, Option, sym, refl, ap, ◌∙◌, subst, ap₂, inl, inr, arith}
+use Rattle.std.proofs.Common.{◌≡◌, ℕ, ◌+◌, ◌*◌, ◌<◌, ◌≤◌, Bool, not, ◌&&◌, ◌⊎◌, List, [], ◌∷◌, ◌++◌, map, get_or, take, Some, None, Option, sym, refl, ap, ◌∙◌, subst, ap₂, inl, inr, arith, Ok}
 use Rattle.std.proofs.lemmas.Bool.{cases_lt}
 use Rattle.std.proofs.lemmas.List.{take-map}
 use Rattle.refusal.specs.declared.Refusal.{Refusal}
 use Rattle.coin.specs.Tosses.{toss_of}
 use Rattle.closing.specs.Counting.{means, quorum_of, weak_quorum_of}
 use Rattle.board.specs.declared.states.Table.{Table}
+use Rattle.board.specs.declared.states.Decision.TheVariants.{Undecided}
 use Rattle.board.specs.Tables.{with_node, bit_at, decided_at, final_at}
 use Rattle.board.specs.Setups.{propose_refusal, if_accepted}
 use Rattle.agreement.specs.Setups.{marked, mark_faulty_refusal}
+use Rattle.refusal.specs.Refusals.{answered}
 use Rattle.law.specs.declared.calls.SetupCall.{SetupCall}
 use Rattle.law.specs.declared.calls.SetupCall.TheVariants.{MarkFaulty, Propose}
-use Rattle.law.specs.declared.calls.Answer.TheVariants as answer
-use Rattle.law.specs.Runs.{Tosses, SetupMove, Prepared, SetupAsked, setup_refusal, setup_effect, setup_after, setup_run, setup_history, answer_of, World, Move, Ask, run, history, outcome_history}
+use Rattle.law.specs.declared.calls.Told.TheVariants.{Done, Decision}
+use Rattle.law.specs.Runs.{Tosses, SetupMove, Prepared, SetupAsked, setup_refusal, setup_effect, setup_after, setup_run, setup_history, World, Move, Ask, run, history, outcome_history}
 use Rattle.law.specs.Law.{Sizes, Boards, start, open_world, setup_asked, asked, is_faulty, began, FewFaulty, second_step, began_count, OpenAfter, Kept, Plain, with_coin, TossesAlike, Delayed, Law}
 use Rattle.law.proofs.Tallies.{tally, counted_nodes}
 use Rattle.law.proofs.Quorums.{Quorum}
-use Rattle.law.proofs.Boards.{written_at}
+use Rattle.board.proofs.Boards.{written_at}
 use Rattle.law.proofs.Stages.{Stage}
 use Rattle.law.proofs.Tossing.{Alike}
 use Rattle.law.proofs.Worlds.{Fits, fits_run, item_of}
@@ -48,7 +50,7 @@ module _ {R : Type 0} where
   unfolding setup_history
   same_history [] p p' e = refl
   same_history (v ∷ ks) p p' e =
-      ap₂ ◌∷◌ (ap (λ o. record { call = v.call; answer = answer_of o answer.Done }) (same_refusal p p' e v.fits v.call))
+      ap₂ ◌∷◌ (ap (λ o. record { call = v.call; answer = answered o Done }) (same_refusal p p' e v.fits v.call))
       (same_history ks (setup_after p v) (setup_after p' v) (after_table p p' e v))
 
   same_table : (ks : List (SetupMove R)) (p p' : Prepared R) → p.table ≡ p'.table → (setup_run p ks).table ≡ (setup_run p' ks).table
@@ -137,7 +139,7 @@ module _ {R : Type 0} (meaning : R → ℕ) (n m : ℕ) (sizes : Sizes n m) wher
           (f : Tosses) (c k : ℕ) (o : OpenAfter (history meaning w (map (with_tosses f) ps)
           ++ outcome_history (run meaning w (map (with_tosses f) ps)).state.table (run meaning w (map (with_tosses f) ps)).values qs) c k) → Waits w f c k o.1
       waiting w g st first f c k o =
-          let x = found meaning n m faulty (quorums b ks few) began_with w g st (map (with_tosses f) ps) qs o.1 o.0 c answer.Open o.3 refl in
+          let x = found meaning n m faulty (quorums b ks few) began_with w g st (map (with_tosses f) ps) qs o.1 o.0 c (Ok (Decision Undecided)) o.3 refl in
           let s = steps_behind meaning n m faulty w (map (with_tosses f) ps) qs o.1 g in
           let l = o.2 in
           let node = x.node in

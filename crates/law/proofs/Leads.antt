@@ -21,33 +21,27 @@ module _ {A : Type 0} where
   cases_option (Some a) = inr (a, refl)
 
   pub some_none : (a : A) (o : Option A) → o ≡ Some a → o ≡ None → ⊥
-  some_none a o p q = let z : ◌≡◌ {A = ℕ} 0 1 = cc in omega arith
+  some_none a o p q = cc
 
   pub some_inj : (a b : A) (o : Option A) → o ≡ Some a → o ≡ Some b → a ≡ b
   some_inj a b o p q = cc
 
   pub or_some : (a : A) (x y : Option A) → or_else x y ≡ Some a → (x ≡ Some a) ⊎ (y ≡ Some a)
-  or_some a (Some b) y e = inl e
-  or_some a None y e = inr e
+  or_some a x y e = grind arith
 
   pub or_has : (x y : Option A) (a : A) → y ≡ Some a → (b : A) × (or_else x y ≡ Some b)
   or_has (Some b) y a e = (b, refl)
   or_has None y a e = (a, e)
 
   pub or_none : (x y : Option A) → or_else x y ≡ None → (x ≡ None) × (y ≡ None)
-  or_none (Some b) y e = absurd (some_none b (Some b) refl e)
-  or_none None y e = (refl, e)
+  or_none x y e = grind arith
 
   -- the held cell and the first bit of a grade
   pub grade_held : (x y : Option A) → (by_grade x y).0 ≡ or_else x y
-  grade_held (Some r) y = refl
-  grade_held None (Some r) = refl
-  grade_held None None = refl
+  grade_held x y = grind arith
 
   pub grade_bit : (x y : Option A) → not (eqb (by_grade x y).1 2) ≡ is_none x
-  grade_bit (Some r) y = refl
-  grade_bit None (Some r) = refl
-  grade_bit None None = refl
+  grade_bit x y = grind arith
 
   -- what the scan finds passes
   pub first_passes : (p : Option A → Bool) (xs : List (Option A)) (r : A) → first p xs ≡ Some r → p (Some r) ≡ true

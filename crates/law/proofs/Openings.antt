@@ -1,11 +1,11 @@
 -- The setup: which nodes are faulty and what each began with, in the table and in the calls' answers.
-use Rattle.std.proofs.Common.{◌≡◌, ℕ, zero, suc, ◌+◌, ◌*◌, ◌/◌, ◌%◌, ◌<◌, ◌≤◌, Bool, true, false, cond, not, ◌&&◌, ◌||◌, eqb, leb, ◌≢◌, List, [], ◌∷◌, length, get_or, set, replicate, Some, None, Option, sym, refl, ap, ◌∙◌, subst, ap₂, inl, inr, arith, length-set, get_or-set_other, get_or-set_same}
+use Rattle.std.proofs.Common.{◌≡◌, ℕ, zero, suc, ◌+◌, ◌*◌, ◌/◌, ◌%◌, ◌<◌, ◌≤◌, Bool, true, false, cond, not, ◌&&◌, ◌||◌, eqb, ◌≢◌, List, [], ◌∷◌, length, get_or, set, replicate, Some, None, Option, sym, refl, ap, ◌∙◌, subst, ap₂, inl, inr, arith, length-set, get_or-set_other, get_or-set_same, is_err}
 use lib.Arith.{digits_lt, digits_div, digits_mod}
-use Rattle.std.proofs.lemmas.Bool.{both_ways, cases_Bool, cases_lt, cases_eq, leb-false, eqb-true, eq-eqb, ne_eqb, and_from, and_parts}
+use Rattle.std.proofs.Math.Bool.{and-true, and-false, or-false}
+use Rattle.std.proofs.lemmas.Bool.{both_ways, cases_Bool, eqb-true, eq-eqb, and_from, and_parts}
 use Rattle.std.proofs.lemmas.List.{get_or-replicate, get_or_past}
 use Rattle.refusal.specs.declared.Refusal.{Refusal}
-use Rattle.refusal.specs.declared.Refusal.TheVariants.{NoNode, NoItem, Short, FaultyNode}
-use Rattle.refusal.specs.Refusals.{refuse}
+use Rattle.refusal.specs.Refusals.{answered}
 use Rattle.closing.specs.Counting.{quorum_of, weak_quorum_of}
 use Rattle.board.specs.declared.states.Node.{Node}
 use Rattle.board.specs.declared.states.Table.{Table}
@@ -14,12 +14,14 @@ use Rattle.board.specs.Setups.{propose_refusal, if_accepted}
 use Rattle.agreement.specs.Setups.{marked, mark_faulty_refusal}
 use Rattle.law.specs.declared.calls.SetupCall.{SetupCall}
 use Rattle.law.specs.declared.calls.SetupCall.TheVariants.{MarkFaulty, Propose}
-use Rattle.law.specs.declared.calls.Answer.TheVariants as answer
-use Rattle.law.specs.Runs.{SetupMove, Prepared, setup_refusal, setup_effect, setup_after, setup_answer, setup_run, setup_history, is_refused, answer_of}
+use Rattle.law.specs.declared.calls.Told.{Told}
+use Rattle.law.specs.declared.calls.Told.TheVariants.{Done}
+use Rattle.law.specs.Runs.{SetupMove, Prepared, setup_refusal, setup_effect, setup_after, setup_answer, setup_run, setup_history}
 use Rattle.law.specs.Law.{Sizes, Boards, start, open_world, setup_asked, is_faulty, marks_node, began, began_from, proposed, faulty_count}
 use Rattle.law.proofs.Tallies.{tally, counted_nodes}
 use Rattle.law.proofs.Quorums.{Quorum}
-use Rattle.law.proofs.Boards.{length_written, written_at, set_keeps}
+use Rattle.board.proofs.Boards.{length_written, written_at}
+use Rattle.law.proofs.Boards.{set_keeps}
 use Rattle.law.proofs.Worlds.{Fits, item_of}
 use Rattle.law.proofs.Stages.{Stage, polling}
 
@@ -52,27 +54,14 @@ pub record Ready {R : Type 0} (n m : ℕ) (p : Prepared R) : Type 0 where
 
 -- an accepted mark
 mark_in : (t : Table) (i : ℕ) → mark_faulty_refusal t i ≡ None → i < t.n
-mark_in t i e = go (leb t.n i) refl e
-  where
-    go : (b : Bool) → leb t.n i ≡ b → refuse b NoNode None ≡ None → i < t.n
-    go true k h = absurd (let z : ◌≡◌ {A = ℕ} 0 1 = cc in omega arith)
-    go false k h = leb-false t.n i k
+mark_in t i e = grind arith
 
 or_assoc : (x y z : Bool) → ((x || y) || z) ≡ (y || (x || z))
-or_assoc true true z = refl
-or_assoc true false z = refl
-or_assoc false true z = refl
-or_assoc false false z = refl
+or_assoc x y z = grind arith
 
 -- an accepted proposal
 propose_in : (t : Table) (fits : Bool) (i c : ℕ) → propose_refusal t fits i c ≡ None → (i < t.n) × (c < t.m)
-propose_in t fits i c e = go (not fits) (leb t.n i) (leb t.m c) (faulty_at t i) refl refl e
-  where
-    go : (a b d h : Bool) → leb t.n i ≡ b → leb t.m c ≡ d → refuse a Short (refuse b NoNode (refuse d NoItem (refuse h FaultyNode None))) ≡ None → (i < t.n) × (c < t.m)
-    go true b d h eb ed z = absurd (let y : ◌≡◌ {A = ℕ} 0 1 = cc in omega arith)
-    go false true d h eb ed z = absurd (let y : ◌≡◌ {A = ℕ} 0 1 = cc in omega arith)
-    go false false true h eb ed z = absurd (let y : ◌≡◌ {A = ℕ} 0 1 = cc in omega arith)
-    go false false false h eb ed z = (leb-false t.n i eb, leb-false t.m c ed)
+propose_in t fits i c e = grind arith
 
 module _ {R : Type 0} (n m : ℕ) where
   ready_effect : (p : Prepared R) (k : SetupCall R) → Ready n m p → Ready n m (setup_effect p k)
@@ -110,49 +99,29 @@ module _ {R : Type 0} (n m : ℕ) where
   ready_run p (v ∷ vs) g = ready_run (setup_after p v) vs (ready_after p v g)
 
   marked_at : (p : Prepared R) (i j : ℕ) → j < length p.table.nodes → faulty_at (with_node p.table j marked) i ≡ (eqb i j || faulty_at p.table i)
-  marked_at p i j l = elim (cases_eq i j) [
-    | inl e ↦
-        let t : eqb i j ≡ true = eq-eqb i j e in
-        rw t (subst (λ k. (get_or (set p.table.nodes j (marked (node_at p.table j))) k no_node).faulty ≡ true) (sym e)
-        (ap (λ (x : Node). x.faulty) (get_or-set_same p.table.nodes j (marked (node_at p.table j)) no_node l)))
-    | inr e ↦
-        let t : eqb i j ≡ false = ne_eqb i j e in
-        rw t (ap (λ (x : Node). x.faulty) (get_or-set_other p.table.nodes j i (marked (node_at p.table j)) no_node e))
-  ]
+  marked_at p i j l = grind (arith, get_or-set_same, get_or-set_other)
 
   -- a node is faulty after a call if it was, or the call was accepted and marked it
   faulty_after : (p : Prepared R) (v : SetupMove R) → Ready n m p → (i : ℕ) →
-      faulty_at (setup_after p v).table i ≡ ((marks_node i v.call && not (is_refused (setup_answer p v))) || faulty_at p.table i)
+      faulty_at (setup_after p v).table i ≡ ((marks_node i v.call && not (is_err (setup_answer p v))) || faulty_at p.table i)
   faulty_after p v g i = go v.call (setup_refusal p v.fits v.call) refl
     where
       go : (k : SetupCall R) (o : Option Refusal) → setup_refusal p v.fits k ≡ o →
-          faulty_at (if_accepted o (setup_effect p k) p).table i ≡ ((marks_node i k && not (is_refused {R = R} (answer_of o answer.Done))) || faulty_at p.table i)
+          faulty_at (if_accepted o (setup_effect p k) p).table i ≡ ((marks_node i k && not (is_err {T = Told R} (answered o Done))) || faulty_at p.table i)
       go (MarkFaulty j) None e =
           let l : j < length p.table.nodes = omega (arith, mark_in p.table j e, g.n_is, g.nodes) in
-          marked_at p i j l ∙ ap (λ b. b || faulty_at p.table i) (sym (and_true (eqb i j)))
-        where
-          and_true : (b : Bool) → (b && true) ≡ b
-          and_true true = refl
-          and_true false = refl
-      go (MarkFaulty j) (Some r) e = ap (λ b. b || faulty_at p.table i) (sym (and_false (eqb i j)))
-        where
-          and_false : (b : Bool) → (b && false) ≡ false
-          and_false true = refl
-          and_false false = refl
+          marked_at p i j l ∙ ap (λ b. b || faulty_at p.table i) (sym (and-true (eqb i j)))
+      go (MarkFaulty j) (Some r) e = ap (λ b. b || faulty_at p.table i) (sym (and-false (eqb i j)))
       go (Propose j c x) None e = refl
       go (Propose j c x) (Some r) e = refl
 
   pub faulty_run : (p : Prepared R) (vs : List (SetupMove R)) → Ready n m p → (i : ℕ) → faulty_at (setup_run p vs).table i ≡ (faulty_at p.table i || is_faulty (setup_history p vs) i)
   unfolding setup_run setup_history is_faulty
-  faulty_run p [] g i = sym (or_no (faulty_at p.table i))
-    where
-      or_no : (b : Bool) → (b || false) ≡ b
-      or_no true = refl
-      or_no false = refl
+  faulty_run p [] g i = sym (or-false (faulty_at p.table i))
   faulty_run p (v ∷ vs) g i =
       faulty_run (setup_after p v) vs (ready_after p v g) i
       ∙ ap (λ b. b || is_faulty (setup_history (setup_after p v) vs) i) (faulty_after p v g i)
-      ∙ or_assoc (marks_node i v.call && not (is_refused (setup_answer p v))) (faulty_at p.table i) (is_faulty (setup_history (setup_after p v) vs) i)
+      ∙ or_assoc (marks_node i v.call && not (is_err (setup_answer p v))) (faulty_at p.table i) (is_faulty (setup_history (setup_after p v) vs) i)
 
   set_at : (l : List (Option R)) (k i c j d : ℕ) (y : Option R) → n * k ≤ length l → i < n → c < k → j < n → d < k →
       get_or (set l (j * k + d) y) (i * k + c) None ≡ cond (eqb i j && eqb c d) y (get_or l (i * k + c) None)
@@ -172,12 +141,12 @@ module _ {R : Type 0} (n m : ℕ) where
       ]
 
   value_step : (p : Prepared R) (v : SetupMove R) → Ready n m p → (i c : ℕ) → i < n → c < m →
-      value_at (setup_after p v).table (setup_after p v).values i c ≡ cond (is_refused (setup_answer p v)) (value_at p.table p.values i c) (proposed i c (value_at p.table p.values i c) v.call)
+      value_at (setup_after p v).table (setup_after p v).values i c ≡ cond (is_err (setup_answer p v)) (value_at p.table p.values i c) (proposed i c (value_at p.table p.values i c) v.call)
   value_step p v g i c li lc = go v.call (setup_refusal p v.fits v.call) refl
     where
       go : (k : SetupCall R) (o : Option Refusal) → setup_refusal p v.fits k ≡ o →
           value_at (if_accepted o (setup_effect p k) p).table (if_accepted o (setup_effect p k) p).values i c
-          ≡ cond (is_refused {R = R} (answer_of o answer.Done)) (value_at p.table p.values i c) (proposed i c (value_at p.table p.values i c) k)
+          ≡ cond (is_err {T = Told R} (answered o Done)) (value_at p.table p.values i c) (proposed i c (value_at p.table p.values i c) k)
       go (MarkFaulty j) None e = refl
       go (MarkFaulty j) (Some r) e = refl
       go (Propose j d y) None e =
@@ -200,16 +169,10 @@ new_at : (i : ℕ) → i < 16 → get_or (replicate 16 new_node) i no_node ≡ n
 new_at i l = get_or-replicate 16 i new_node no_node l
 
 new_keeps : {Y : Type 0} (φ : Node → Y) → φ no_node ≡ φ new_node → (i : ℕ) → φ (get_or (replicate 16 new_node) i no_node) ≡ φ new_node
-new_keeps φ h i = elim (cases_lt i 16) [
-  | inl l ↦ ap φ (new_at i l)
-  | inr l ↦ ap φ (get_or_past (replicate 16 new_node) i no_node l) ∙ h
-]
+new_keeps φ h i = grind (arith, new_at, get_or_past)
 
 blank_at : (c : ℕ) → get_or (replicate 16 false) c false ≡ false
-blank_at c = elim (cases_lt c 16) [
-  | inl l ↦ get_or-replicate 16 c false false l
-  | inr l ↦ get_or_past (replicate 16 false) c false l
-]
+blank_at c = grind (arith, get_or-replicate, get_or_past)
 
 module _ {R : Type 0} (n m : ℕ) (sizes : Sizes n m) (b : Boards R n m) where
   pub ready_start : Ready n m (start n m sizes b)

@@ -1,9 +1,9 @@
 -- When an instance is over.
-use Rattle.std.proofs.Common.{◌≡◌, ℕ, ◌+◌, ◌*◌, ◌/◌, ◌%◌, ◌<◌, ◌≤◌, Bool, true, false, not, ◌||◌, ltb, sym, refl, ap, ◌∙◌, subst, ap₂, inl, inr, arith}
+use Rattle.std.proofs.Common.{◌≡◌, ℕ, ◌+◌, ◌*◌, ◌/◌, ◌%◌, ◌<◌, ◌≤◌, true, false, not, ◌||◌, ltb, sym, ap, ◌∙◌, subst, ap₂, inl, inr, arith}
 use lib.Arith.{digits_lt, digits_div, digits_mod}
+use Rattle.std.proofs.Math.Bool.{or-false}
 use Rattle.std.proofs.lemmas.Bool.{cases_Bool, and_from, ltb-true, ne_eqb}
 use Rattle.closing.specs.declared.types.Phase.{Phase}
-use Rattle.closing.specs.declared.types.Phase.TheVariants.{Poll, Echo, ToZero, ToOne, Toss}
 use Rattle.board.specs.declared.states.Table.{Table}
 use Rattle.board.specs.Tables.{faulty_at, decided_at, undecided_at, undecided_count}
 use Rattle.agreement.specs.declared.states.Instance.{Instance}
@@ -22,18 +22,10 @@ open_counts t i c li lc s d =
 pub open_over : (s : Instance) (i c : ℕ) → i < s.table.n → c < s.table.m → faulty_at s.table i ≡ false → decided_at s.table i c ≡ false → is_over s ≡ ltb 100 s.round
 open_over s i c li lc h d =
     ap (λ b. ltb 100 s.round || b) (ne_eqb (undecided_count s.table) 0 (λ e. absurd (omega (arith, open_counts s.table i c li lc h d))))
-    ∙ or_no (ltb 100 s.round)
-  where
-    or_no : (b : Bool) → (b || false) ≡ b
-    or_no true = refl
-    or_no false = refl
+    ∙ or-false (ltb 100 s.round)
 
 pub early_round : (p : Phase) (k : ℕ) → Timely p k → step_number p k ≤ 302 → k ≤ 100
-early_round Poll k t h = let e = t.early refl in omega arith
-early_round Echo k t h = let e = t.early refl in omega arith
-early_round ToZero k t h = omega arith
-early_round ToOne k t h = omega arith
-early_round Toss k t h = omega arith
+early_round p k t h = grind arith
 
 -- where an instance is over before its last step, honest nodes have decided
 pub over_decided : (s : Instance) → is_over s ≡ true → Timely s.phase s.round → step_number s.phase s.round ≤ 302 →

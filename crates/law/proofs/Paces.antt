@@ -17,7 +17,7 @@ use Rattle.law.specs.declared.calls.Call.TheVariants as call
 use Rattle.law.specs.Runs.{Tosses, World, refusal, effect, after}
 use Rattle.board.specs.Setups.{if_accepted}
 use Rattle.law.specs.Law.{Plain}
-use Rattle.law.proofs.Boards.{written_at}
+use Rattle.board.proofs.Boards.{written_at}
 use Rattle.law.proofs.Worlds.{Fits, item_of, closed_world, closed_finals, effect_quiet}
 use Rattle.law.proofs.Tossing.{Alike}
 
@@ -31,30 +31,21 @@ pub record Pace {R : Type 0} (n m : ℕ) (a b : World R) : Type 0 where
 
 -- one check of two chains
 refuse_on : (x y : Bool) (e : Refusal) (p q : Option Refusal) → x ≡ y → (y ≡ false → p ≡ q) → refuse x e p ≡ refuse y e q
-refuse_on x true e p q h k = ap (λ b. refuse b e p) h
-refuse_on x false e p q h k = ap (λ b. refuse b e p) h ∙ k refl
+refuse_on x y e p q h k = grind arith
 
 -- a write at one place of two lists that agree below N
 set_alike : {X : Type 0} (xs ys : List X) (p k : ℕ) (v d : X) (N : ℕ) → N ≤ length xs → N ≤ length ys → k < N → (k ≢ p → get_or xs k d ≡ get_or ys k d) →
     get_or (set xs p v) k d ≡ get_or (set ys p v) k d
-set_alike xs ys p k v d N hx hy l h =
-    elim (cases_eq k p) [
-      | inl e ↦ subst (λ j. j < N → get_or (set xs p v) j d ≡ get_or (set ys p v) j d) (sym e)
-          (λ l'. get_or-set_same xs p v d (omega arith) ∙ sym (get_or-set_same ys p v d (omega arith))) l
-      | inr e ↦ get_or-set_other xs p k v d e ∙ h e ∙ sym (get_or-set_other ys p k v d e)
-    ]
+set_alike xs ys p k v d N hx hy l h = grind (arith, get_or-set_same, get_or-set_other)
 
 cond_same : {X : Type 0} (x y : Bool) (s t s' t' : X) → x ≡ y → (x ≡ true → s ≡ s') → (x ≡ false → t ≡ t') → cond x s t ≡ cond y s' t'
-cond_same true y s t s' t' e h k = h refl ∙ ap (λ b. cond b s' t') e
-cond_same false y s t s' t' e h k = k refl ∙ ap (λ b. cond b s' t') e
+cond_same x y s t s' t' e h k = grind arith
 
 mark_not_one : (b : Bool) → mark_of b ≡ 1 → ⊥
-mark_not_one true e = omega arith
-mark_not_one false e = omega arith
+mark_not_one b e = grind arith
 
 cond_one : (b : Bool) (x : ℕ) → cond b x 0 ≡ 1 → x ≡ 1
-cond_one true x e = e
-cond_one false x e = absurd (omega arith)
+cond_one b x e = grind arith
 
 module _ {R : Type 0} (meaning : R → ℕ) (n m : ℕ) (faulty : ℕ → Bool) (a b : World R) (ga : Fits n m faulty a) (gb : Fits n m faulty b) (w : Pace n m a b) where
   -- a place is the same in both
@@ -213,9 +204,9 @@ module _ {R : Type 0} (meaning : R → ℕ) (n m : ℕ) (faulty : ℕ → Bool) 
   ]
 
   effect_both : (f g : Tosses) (c : ℕ) (k : Call R) → Both f g c (effect meaning f a k) (effect meaning g b k)
-  effect_both f g c (call.SendValue i j d x) = quiet_both f g c (call.SendValue i j d x) (value_sent meaning n m faulty a b ga gb w f g i j d x) (λ e. let z : ◌≡◌ {A = ℕ} 0 1 = cc in omega arith)
-  effect_both f g c (call.SendBit i j d x) = quiet_both f g c (call.SendBit i j d x) (bit_sent meaning n m faulty a b ga gb w f g i j d x) (λ e. let z : ◌≡◌ {A = ℕ} 0 1 = cc in omega arith)
-  effect_both f g c (call.SendFinal i j) = quiet_both f g c (call.SendFinal i j) (final_sent meaning n m faulty a b ga gb w f g i j) (λ e. let z : ◌≡◌ {A = ℕ} 0 1 = cc in omega arith)
+  effect_both f g c (call.SendValue i j d x) = quiet_both f g c (call.SendValue i j d x) (value_sent meaning n m faulty a b ga gb w f g i j d x) (λ e. cc)
+  effect_both f g c (call.SendBit i j d x) = quiet_both f g c (call.SendBit i j d x) (bit_sent meaning n m faulty a b ga gb w f g i j d x) (λ e. cc)
+  effect_both f g c (call.SendFinal i j) = quiet_both f g c (call.SendFinal i j) (final_sent meaning n m faulty a b ga gb w f g i j) (λ e. cc)
   effect_both f g c call.Close = both refl refl
   effect_both f g c (call.Decision i d) = still w refl refl
   effect_both f g c (call.Undecided p) = still w refl refl

@@ -1,9 +1,9 @@
 -- The invariant of one item, from step to step.
-use Rattle.std.proofs.Common.{◌≡◌, ℕ, ◌<◌, Bool, true, false, cond, not, ◌||◌, ◌⊎◌, Some, None, Option, sym, refl, ap, ◌∙◌, inl, inr}
-use Rattle.std.proofs.lemmas.Bool.{true≢false, false≢true, cases_Bool, both_ways}
+use Rattle.std.proofs.Common.{◌≡◌, ℕ, ◌<◌, Bool, true, false, cond, not, ◌||◌, ◌⊎◌, Some, None, Option, sym, refl, ap, ◌∙◌, inl, inr, arith}
+use Rattle.std.proofs.lemmas.Bool.{false≢true, cases_Bool, both_ways}
 use Rattle.coin.specs.Tosses.{toss_of}
 use Rattle.closing.specs.declared.types.Phase.{Phase}
-use Rattle.closing.specs.declared.types.Phase.TheVariants.{Poll, Echo, ToZero, ToOne, Toss}
+use Rattle.closing.specs.declared.types.Phase.TheVariants.{Poll, Echo}
 use Rattle.closing.specs.Closings.{sends_cells}
 use Rattle.agreement.specs.Closes.{next_phase}
 use Rattle.law.specs.Runs.{Tosses}
@@ -16,11 +16,7 @@ use Rattle.law.proofs.Items.{Item, Closing, hears, marks_bits, votes_at, value_p
 
 -- bits are sent in every step after the echo
 pub late_next : (p : Phase) → sends_cells p ≡ false → sends_cells (next_phase p) ≡ false
-late_next Poll e = absurd (true≢false e)
-late_next Echo e = absurd (true≢false e)
-late_next ToZero e = refl
-late_next ToOne e = refl
-late_next Toss e = refl
+late_next p e = grind arith
 
 module _ {R : Type 0} (meaning : R → ℕ) (n : ℕ) (faulty : ℕ → Bool) where
   abbrev pub NoneDecided : Item R → Type 0

@@ -1,6 +1,6 @@
 -- Counting: the laws of `tally`.
 use Rattle.std.proofs.Common.{◌≡◌, ℕ, zero, suc, ◌+◌, ◌<◌, ◌≤◌, Bool, true, false, cond, ◌⊎◌, map, count_by, sym, refl, ap, ◌∙◌, inl, inr, zero-le, not-suc-le-zero, arith}
-use Rattle.std.proofs.lemmas.Bool.{false≢true, cases_lt}
+use Rattle.std.proofs.lemmas.Bool.{false≢true}
 use Rattle.std.specs.List.{range_with_len}
 use Rattle.std.proofs.lemmas.List.FromFn.{sum_by-map-range_with_len_more}
 use Rattle.std.proofs.lemmas.List.{map-id}
@@ -12,17 +12,10 @@ tally (suc n) p = cond (p n) (suc (tally n p)) (tally n p)
 
 -- each number below suc n is below n, or is n
 pub below_suc : (n i : ℕ) → i < suc n → (i < n) ⊎ (i ≡ n)
-below_suc n i l = elim (cases_lt i n) [ inl k ↦ inl k | inr k ↦ inr (omega arith) ]
+below_suc n i l = grind arith
 
 cover_step : (p q r : Bool) (x y z : ℕ) → (p ≡ true → (q ≡ true) ⊎ (r ≡ true)) → x ≤ y + z → cond p (suc x) x ≤ cond q (suc y) y + cond r (suc z) z
-cover_step true true true x y z h l = omega arith
-cover_step true true false x y z h l = omega arith
-cover_step true false true x y z h l = omega arith
-cover_step true false false x y z h l = elim (h refl) [ inl e ↦ absurd (false≢true e) | inr e ↦ absurd (false≢true e) ]
-cover_step false true true x y z h l = omega arith
-cover_step false true false x y z h l = omega arith
-cover_step false false true x y z h l = omega arith
-cover_step false false false x y z h l = l
+cover_step p q r x y z h l = grind arith
 
 -- what passes p passes q or r
 pub tally_cover : (n : ℕ) (p q r : ℕ → Bool) → ((i : ℕ) → i < n → p i ≡ true → (q i ≡ true) ⊎ (r i ≡ true)) → tally n p ≤ tally n q + tally n r
@@ -31,13 +24,7 @@ tally_cover zero p q r h = zero-le
 tally_cover (suc n) p q r h = cover_step (p n) (q n) (r n) _ _ _ (h n (omega arith)) (tally_cover n p q r (λ i l. h i (omega arith)))
 
 apart_step : (p q r : Bool) (x y z : ℕ) → (p ≡ true → r ≡ true) → (q ≡ true → r ≡ true) → (p ≡ true → q ≡ true → ⊥) → x + y ≤ z → cond p (suc x) x + cond q (suc y) y ≤ cond r (suc z) z
-apart_step true true r x y z hp hq nay l = absurd (nay refl refl)
-apart_step true false true x y z hp hq nay l = omega arith
-apart_step true false false x y z hp hq nay l = absurd (false≢true (hp refl))
-apart_step false true true x y z hp hq nay l = omega arith
-apart_step false true false x y z hp hq nay l = absurd (false≢true (hq refl))
-apart_step false false true x y z hp hq nay l = omega arith
-apart_step false false false x y z hp hq nay l = l
+apart_step p q r x y z hp hq nay l = grind arith
 
 -- p and q never pass together, and what passes either passes r
 pub tally_apart : (n : ℕ) (p q r : ℕ → Bool) → ((i : ℕ) → i < n → p i ≡ true → r i ≡ true) → ((i : ℕ) → i < n → q i ≡ true → r i ≡ true) →
@@ -78,12 +65,10 @@ tally_some n p h =
     ]
 
 pos_step : (b : Bool) (x : ℕ) → b ≡ true → 0 < cond b (suc x) x
-pos_step true x e = omega arith
-pos_step false x e = absurd (false≢true e)
+pos_step b x e = grind arith
 
 up_step : (b : Bool) (x : ℕ) → 0 < x → 0 < cond b (suc x) x
-up_step true x e = omega arith
-up_step false x e = e
+up_step b x e = grind arith
 
 pub tally_pos : (n : ℕ) (p : ℕ → Bool) (i : ℕ) → i < n → p i ≡ true → 0 < tally n p
 unfolding tally
@@ -92,8 +77,7 @@ tally_pos (suc n) p i l e =
     elim (below_suc n i l) [ inl k ↦ up_step (p n) _ (tally_pos n p i k e) | inr k ↦ pos_step (p n) _ (ap p (sym k) ∙ e) ]
 
 one_more : (b : Bool) (x : ℕ) → x + cond b 1 0 ≡ cond b (suc x) x
-one_more true x = omega arith
-one_more false x = omega arith
+one_more b x = grind arith
 
 -- a count over the list of what the nodes gave is a tally
 pub counted : {X : Type 0} (p : X → Bool) (f : ℕ → X) (n : ℕ) → count_by p (map f (range_with_len 0 n)) ≡ tally n (λ i. p (f i))

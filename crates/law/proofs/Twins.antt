@@ -1,5 +1,5 @@
 -- Two coins that leave an item undecided have tossed it alike.
-use Rattle.std.proofs.Common.{◌≡◌, ℕ, suc, ◌+◌, ◌*◌, ◌<◌, ◌≤◌, Bool, true, false, not, ltb, ◌⊎◌, List, [], ◌∷◌, map, Option, sym, refl, ap, ◌∙◌, subst, ap₂, inl, inr, arith}
+use Rattle.std.proofs.Common.{◌≡◌, ℕ, suc, ◌+◌, ◌*◌, ◌<◌, ◌≤◌, Bool, true, false, not, ltb, ◌⊎◌, List, [], ◌∷◌, map, Option, sym, ap, ◌∙◌, subst, ap₂, inl, inr, arith}
 use Rattle.std.proofs.lemmas.Bool.{both_ways, cases_Bool, cases_eq}
 use Rattle.coin.specs.Tosses.{toss_of}
 use Rattle.closing.specs.declared.types.Phase.{Phase}
@@ -26,13 +26,10 @@ abbrev pub with_tosses : {R : Type 0} → Tosses → Plain R → Move R
 with_tosses f p = record { call = p.call; tosses = f; fits = p.fits }
 
 same_or_not : (x b : Bool) → (x ≡ b) ⊎ (x ≡ not b)
-same_or_not true true = inl refl
-same_or_not true false = inr refl
-same_or_not false true = inr refl
-same_or_not false false = inl refl
+same_or_not x b = grind arith
 
 toss_number : (p : Phase) (k : ℕ) → p ≡ Toss → step_number p k ≡ 3 * k + 2
-toss_number p k e = ap (λ h. step_number h k) e
+toss_number p k e = grind arith
 
 module _ {R : Type 0} (meaning : R → ℕ) (n m : ℕ) (faulty : ℕ → Bool) (pn : 0 < n) (Q : Quorum n faulty (quorum_of n) (weak_quorum_of n)) (c : ℕ) (lc : c < m) where
   pm : 0 < m

@@ -1,5 +1,5 @@
 -- Where all honest nodes begin an item alike, they decide it so by step 4.
-use Rattle.std.proofs.Common.{◌≡◌, ℕ, suc, ◌+◌, ◌*◌, ◌<◌, ◌≤◌, Bool, true, false, Some, None, sym, refl, ap, ◌∙◌, ap₂, arith}
+use Rattle.std.proofs.Common.{◌≡◌, ℕ, suc, ◌+◌, ◌*◌, ◌<◌, ◌≤◌, Bool, true, false, Some, None, sym, refl, ap, ◌∙◌, arith}
 use Rattle.std.proofs.lemmas.Bool.{true≢false, or_right}
 use Rattle.coin.specs.Tosses.{toss_of}
 use Rattle.closing.specs.declared.types.Phase.{Phase}
@@ -52,7 +52,7 @@ module _ {R : Type 0} (meaning : R → ℕ) (n : ℕ) (faulty : ℕ → Bool) wh
     closing_timely t = rw (k.phase, k.round) (timely_next x.phase x.round t)
 
     pub closing_step : Timely x.phase x.round → step_of y ≡ suc (step_of x)
-    closing_step t = ap₂ step_number k.phase k.round ∙ step_next x.phase x.round t
+    closing_step t = grind (arith, step_next)
 
     -- a node decides now that was shown to vote so
     decides_now : (i : ℕ) → i < n → faulty i ≡ false → (p : Phase) → x.phase ≡ p → sends_cells p ≡ false →

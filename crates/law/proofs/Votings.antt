@@ -58,18 +58,10 @@ module _ (n : ℕ) (faulty : ℕ → Bool) (q : ℕ) where
     no_ones bit h h' f f' z = elim (cases_Bool (heard h' true)) [ inl o ↦ absurd (not_both bit h h' f f' z o) | inr e ↦ e ]
 
     vote_zeros : (p : Phase) (h : ℕ → ℕ) (toss : Bool) → sends_cells p ≡ false → heard h false ≡ true → heard h true ≡ false → (voted p h toss).0 ≡ false
-    vote_zeros Poll h toss e a b = absurd (true≢false e)
-    vote_zeros Echo h toss e a b = absurd (true≢false e)
-    vote_zeros ToZero h toss e a b = rw a
-    vote_zeros ToOne h toss e a b = rw (b, a)
-    vote_zeros Toss h toss e a b = rw a
+    vote_zeros p h toss e a b = grind arith
 
     vote_ones : (p : Phase) (h : ℕ → ℕ) (toss : Bool) → sends_cells p ≡ false → heard h false ≡ false → heard h true ≡ true → (voted p h toss).0 ≡ true
-    vote_ones Poll h toss e a b = absurd (true≢false e)
-    vote_ones Echo h toss e a b = absurd (true≢false e)
-    vote_ones ToZero h toss e a b = rw (a, b)
-    vote_ones ToOne h toss e a b = rw b
-    vote_ones Toss h toss e a b = rw (a, b)
+    vote_ones p h toss e a b = grind arith
 
     -- all honest bits alike stay so, whatever is tossed
     pub vote_all : (p : Phase) → sends_cells p ≡ false → (b : Bool) (bit : ℕ → Bool) (h : ℕ → ℕ) (toss : Bool) → TrueTo h bit → All b bit → (voted p h toss).0 ≡ b
@@ -88,19 +80,13 @@ module _ (n : ℕ) (faulty : ℕ → Bool) (q : ℕ) where
     ones_decide bit h toss f a = let o = all_heard true bit h f a in rw o
 
     decides_zero : (z o : Bool) → ◌≡◌ {A = Bool} (cond {A = Bool × Bool} z (false, true) (cond o (true, false) (false, false))).1 true → z ≡ true
-    decides_zero true o e = refl
-    decides_zero false true e = absurd (false≢true e)
-    decides_zero false false e = absurd (false≢true e)
+    decides_zero z o e = grind arith
 
     decides_one : (o z : Bool) → ◌≡◌ {A = Bool} (cond {A = Bool × Bool} o (true, true) (cond z (false, false) (true, false))).1 true → o ≡ true
-    decides_one true z e = refl
-    decides_one false true e = absurd (false≢true e)
-    decides_one false false e = absurd (false≢true e)
+    decides_one o z e = grind arith
 
     decides_toss : (z o t : Bool) → ◌≡◌ {A = Bool} (cond {A = Bool × Bool} z (false, false) (cond o (true, false) (t, false))).1 true → ⊥
-    decides_toss true o t e = false≢true e
-    decides_toss false true t e = false≢true e
-    decides_toss false false t e = false≢true e
+    decides_toss z o t e = grind arith
 
     -- where one decides, all vote alike
     pub decided_all : (p : Phase) (bit : ℕ → Bool) (h : ℕ → ℕ) (toss : Bool) → TrueTo h bit → (voted p h toss).1 ≡ true →

@@ -13,7 +13,8 @@ use Rattle.law.specs.declared.calls.Call.{Call}
 use Rattle.law.specs.declared.calls.Call.TheVariants as call
 use Rattle.law.specs.Runs.{Tosses, World, Move, refusal, effect, after, run}
 use Rattle.board.specs.Setups.{if_accepted}
-use Rattle.law.proofs.Boards.{length_written, written_at, set_keeps, written_keeps}
+use Rattle.board.proofs.Boards.{length_written, written_at}
+use Rattle.law.proofs.Boards.{set_keeps, written_keeps}
 use Rattle.law.proofs.Items.{Item, Closing, Timely, timely_next}
 
 -- item c of a world

@@ -1,18 +1,20 @@
 -- What every run keeps to.
-use Rattle.std.specs.Prelude.{◌≡◌, ℕ, ◌+◌, ◌*◌, ◌<◌, ◌≤◌, Bool, true, false, cond, not, ◌&&◌, ◌||◌, ◌⊎◌, List, [], ◌∷◌, ◌++◌, map, length, take, Some, None, count_by, Option, ◌==◌}
+use Rattle.std.specs.Prelude.{◌≡◌, ℕ, ◌+◌, ◌*◌, ◌<◌, ◌≤◌, Bool, true, false, cond, not, ◌&&◌, ◌||◌, ◌⊎◌, List, [], ◌∷◌, ◌++◌, map, length, take, Some, None, Ok, Err, is_err, count_by, Option, Result, ◌==◌}
 use Rattle.std.specs.List.{slice_get, range_with_len}
+use Rattle.refusal.specs.declared.Refusal.{Refusal}
 use Rattle.refusal.specs.declared.Refusal.TheVariants.{Over}
 use Rattle.coin.specs.Tosses.{toss_of}
 use Rattle.closing.specs.Counting.{means}
+use Rattle.board.specs.declared.states.Decision.TheVariants.{Undecided, Decided}
 use Rattle.board.specs.Setups.{blank_values, blank_marks}
 use Rattle.agreement.specs.Setups.{made, opened}
 use Rattle.law.specs.declared.calls.SetupCall.{SetupCall}
 use Rattle.law.specs.declared.calls.SetupCall.TheVariants.{MarkFaulty, Propose}
 use Rattle.law.specs.declared.calls.Call.{Call}
 use Rattle.law.specs.declared.calls.Call.TheVariants as call
-use Rattle.law.specs.declared.calls.Answer.{Answer}
-use Rattle.law.specs.declared.calls.Answer.TheVariants as answer
-use Rattle.law.specs.Runs.{Tosses, is_refused, SetupMove, Prepared, SetupAsked, setup_run, setup_history, Move, World, Asked, run, history, Ask, outcome_history}
+use Rattle.law.specs.declared.calls.Told.{Told}
+use Rattle.law.specs.declared.calls.Told.TheVariants.{Done, Decision}
+use Rattle.law.specs.Runs.{Tosses, SetupMove, Prepared, SetupAsked, setup_run, setup_history, Move, World, Asked, run, history, Ask, outcome_history}
 
 -- The sizes of a run.
 pub record Sizes (n m : ℕ) : Type 0 where
@@ -75,7 +77,7 @@ marks_node i (Propose j c x) = false
 
 unfoldable pub is_faulty : {R : Type 0} → List (SetupAsked R) → ℕ → Bool
 is_faulty [] i = false
-is_faulty (a ∷ ss) i = (marks_node i a.call && not (is_refused a.answer)) || is_faulty ss i
+is_faulty (a ∷ ss) i = (marks_node i a.call && not (is_err a.answer)) || is_faulty ss i
 
 -- the cell that a call proposes for node i and item c, or else x
 abbrev pub proposed : {R : Type 0} → ℕ → ℕ → Option R → SetupCall R → Option R
@@ -85,7 +87,7 @@ proposed i c x (Propose j d y) = cond (i == j && c == d) y x
 -- the last cell that an accepted call proposed for node i and item c, or else x
 unfoldable pub began_from : {R : Type 0} → Option R → List (SetupAsked R) → ℕ → ℕ → Option R
 began_from x [] i c = x
-began_from x (a ∷ ss) i c = began_from (cond (is_refused a.answer) x (proposed i c x a.call)) ss i c
+began_from x (a ∷ ss) i c = began_from (cond (is_err a.answer) x (proposed i c x a.call)) ss i c
 
 -- the cell that node i began item c with: the last that was accepted, or else none
 abbrev pub began : {R : Type 0} → List (SetupAsked R) → ℕ → ℕ → Option R
@@ -119,11 +121,11 @@ pub record Honest {R : Type 0} (ss : List (SetupAsked R)) (n i : ℕ) : Type 0 w
   pub honest : is_faulty ss i ≡ false
 
 -- at place p the call is a decision of item c at node i, and this is its answer
-abbrev pub DecisionAt : {R : Type 0} → List (Asked R) → ℕ → ℕ → ℕ → Answer R → Type 0
+abbrev pub DecisionAt : {R : Type 0} → List (Asked R) → ℕ → ℕ → ℕ → Result (Told R) Refusal → Type 0
 DecisionAt h p i c a = slice_get h p ≡ Some (record { call = call.Decision i c; answer = a })
 
 -- at place p the call is a close, and this is its answer
-abbrev pub CloseAt : {R : Type 0} → List (Asked R) → ℕ → Answer R → Type 0
+abbrev pub CloseAt : {R : Type 0} → List (Asked R) → ℕ → Result (Told R) Refusal → Type 0
 CloseAt h p a = slice_get h p ≡ Some (record { call = call.Close; answer = a })
 
 abbrev pub is_close : {R : Type 0} → Call R → Bool
@@ -136,7 +138,7 @@ is_close (call.Undecided k) = false
 
 -- how many closes were accepted before place p
 abbrev pub closes_before : {R : Type 0} → List (Asked R) → ℕ → ℕ
-closes_before h p = count_by (λ a. is_close a.call && not (is_refused a.answer)) (take p h)
+closes_before h p = count_by (λ a. is_close a.call && not (is_err a.answer)) (take p h)
 
 -- the step in force at place p
 abbrev pub step_at : {R : Type 0} → List (Asked R) → ℕ → ℕ
@@ -144,22 +146,22 @@ step_at h p = 1 + closes_before h p
 
 -- step 4 is behind place p: its close was accepted before, or one was refused before because nothing is undecided
 abbrev pub PastFour : {R : Type 0} → List (Asked R) → ℕ → Type 0
-PastFour h p = (q : ℕ) × (q < p) × (step_at h q ≡ 4) × (CloseAt h q answer.Done ⊎ CloseAt h q (answer.Refused Over))
+PastFour h p = (q : ℕ) × (q < p) × (step_at h q ≡ 4) × (CloseAt h q (Ok Done) ⊎ CloseAt h q (Err Over))
 
 -- What one run keeps to: `ss` are the setup's calls with their answers, `h` those after it.
 pub record Kept {R : Type 0} (meaning : R → ℕ) (n m : ℕ) (ss : List (SetupAsked R)) (h : List (Asked R)) : Type 0 where
   -- Agreement: two decisions of one item mean the same, wherever and whenever they were asked for.
-  pub agreement : (i j c p q : ℕ) (x y : Option R) → DecisionAt h p i c (answer.Decided x) → DecisionAt h q j c (answer.Decided y) → Same meaning x y
+  pub agreement : (i j c p q : ℕ) (x y : Option R) → DecisionAt h p i c (Ok (Decision (Decided x))) → DecisionAt h q j c (Ok (Decision (Decided y))) → Same meaning x y
   -- Those of one node are equal.
-  pub unchanging : (i c p q : ℕ) (x y : Option R) → DecisionAt h p i c (answer.Decided x) → DecisionAt h q i c (answer.Decided y) → x ≡ y
+  pub unchanging : (i c p q : ℕ) (x y : Option R) → DecisionAt h p i c (Ok (Decision (Decided x))) → DecisionAt h q i c (Ok (Decision (Decided y))) → x ≡ y
   -- What is decided at a node is never undecided there later.
-  pub lasting : (i c p q : ℕ) (x : Option R) → DecisionAt h p i c (answer.Decided x) → p < q → DecisionAt h q i c answer.Open → ⊥
+  pub lasting : (i c p q : ℕ) (x : Option R) → DecisionAt h p i c (Ok (Decision (Decided x))) → p < q → DecisionAt h q i c (Ok (Decision Undecided)) → ⊥
   -- Majority: more than half of the honest nodes began with the meaning of a reading that is decided.
-  pub majority : (i c p : ℕ) (r : R) → DecisionAt h p i c (answer.Decided (Some r)) → honest_count ss n < 2 * began_count meaning ss n c (meaning r)
+  pub majority : (i c p : ℕ) (r : R) → DecisionAt h p i c (Ok (Decision (Decided (Some r)))) → honest_count ss n < 2 * began_count meaning ss n c (meaning r)
   -- Unanimity: where all honest nodes began an item alike, it is decided so once step 4 is behind.
   pub unanimity : (c : ℕ) → ((i j : ℕ) → Honest ss n i → Honest ss n j → Same meaning (began ss i c) (began ss j c))
-      → (i p : ℕ) (a : Answer R) → PastFour h p → DecisionAt h p i c a → is_refused a ≡ false
-      → (x : Option R) × (a ≡ answer.Decided x) × Same meaning x (began ss i c)
+      → (i p : ℕ) (a : Result (Told R) Refusal) → PastFour h p → DecisionAt h p i c a → is_err a ≡ false
+      → (x : Option R) × (a ≡ Ok (Decision (Decided x))) × Same meaning x (began ss i c)
 
 -- A call with no coin of its own.
 pub record Plain (R : Type 0) : Type 0 where
@@ -176,7 +178,7 @@ TossesAlike ss n f = (i j k c : ℕ) → Honest ss n i → Honest ss n j → tos
 
 -- item c is undecided at some node at a place after k accepted closes
 abbrev pub OpenAfter : {R : Type 0} → List (Asked R) → ℕ → ℕ → Type 0
-OpenAfter h c k = (i p : ℕ) × (k ≤ closes_before h p) × DecisionAt h p i c answer.Open
+OpenAfter h c k = (i p : ℕ) × (k ≤ closes_before h p) × DecisionAt h p i c (Ok (Decision Undecided))
 
 -- the second step of the round after round r
 abbrev pub second_step : ℕ → ℕ

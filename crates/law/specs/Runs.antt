@@ -1,11 +1,10 @@
 -- Whole runs: what each call answers, from the making of the setup on.
-use Rattle.std.specs.Prelude.{ℕ, Bool, true, false, List, [], ◌∷◌, Some, None, Option, ◌==◌, slice_set}
+use Rattle.std.specs.Prelude.{ℕ, Bool, List, [], ◌∷◌, Option, Result, ◌==◌, slice_set}
 use Rattle.refusal.specs.declared.Refusal.{Refusal}
+use Rattle.refusal.specs.Refusals.{answered}
 use Rattle.closing.specs.Counting.{mark_of}
 use Rattle.board.specs.declared.states.Table.{Table}
 use Rattle.board.specs.Tables.{with_node, cell_place, undecided_count, marks_after}
-use Rattle.board.specs.declared.states.Decision.{Decision}
-use Rattle.board.specs.declared.states.Decision.TheVariants.{Undecided, Decided}
 use Rattle.board.specs.Setups.{if_accepted, propose_refusal}
 use Rattle.board.specs.Looks.{decision_refusal, decision_of}
 use Rattle.agreement.specs.declared.states.Instance.{Instance}
@@ -16,25 +15,12 @@ use Rattle.law.specs.declared.calls.SetupCall.{SetupCall}
 use Rattle.law.specs.declared.calls.SetupCall.TheVariants.{MarkFaulty, Propose}
 use Rattle.law.specs.declared.calls.Call.{Call}
 use Rattle.law.specs.declared.calls.Call.TheVariants as call
-use Rattle.law.specs.declared.calls.Answer.{Answer}
-use Rattle.law.specs.declared.calls.Answer.TheVariants as answer
+use Rattle.law.specs.declared.calls.Told.{Told}
+use Rattle.law.specs.declared.calls.Told.TheVariants.{Done, Decision, Count}
 
 -- what a coin tosses, by node, round and item
 abbrev pub Tosses : Type 0
 Tosses = ℕ → ℕ → ℕ → Bool
-
--- what an accepted or refused call answers
-abbrev pub answer_of : {R : Type 0} → Option Refusal → Answer R → Answer R
-answer_of None a = a
-answer_of (Some e) a = answer.Refused e
-
--- whether an answer is a refusal
-abbrev pub is_refused : {R : Type 0} → Answer R → Bool
-is_refused (answer.Refused e) = true
-is_refused answer.Done = false
-is_refused answer.Open = false
-is_refused (answer.Decided x) = false
-is_refused (answer.Count k) = false
 
 -- A setup call as it is made; `fits` is whether the boards that it brings are long enough.
 pub record SetupMove (R : Type 0) : Type 0 where
@@ -61,13 +47,13 @@ abbrev pub setup_after : {R : Type 0} → Prepared R → SetupMove R → Prepare
 setup_after p v = if_accepted (setup_refusal p v.fits v.call) (setup_effect p v.call) p
 
 -- what a call answers
-abbrev pub setup_answer : {R : Type 0} → Prepared R → SetupMove R → Answer R
-setup_answer p v = answer_of (setup_refusal p v.fits v.call) answer.Done
+abbrev pub setup_answer : {R : Type 0} → Prepared R → SetupMove R → Result (Told R) Refusal
+setup_answer p v = answered (setup_refusal p v.fits v.call) Done
 
 -- A setup call with its answer.
 pub record SetupAsked (R : Type 0) : Type 0 where
   pub call : SetupCall R
-  pub answer : Answer R
+  pub answer : Result (Told R) Refusal
 
 -- the setup after a list of calls
 unfoldable pub setup_run : {R : Type 0} → Prepared R → List (SetupMove R) → Prepared R
@@ -130,32 +116,27 @@ effect meaning tosses w call.Close = record {
 effect meaning tosses w (call.Decision i c) = w
 effect meaning tosses w (call.Undecided places) = w
 
--- what a decision answers
-abbrev pub decision_answer : {R : Type 0} → Decision R → Answer R
-decision_answer Undecided = answer.Open
-decision_answer (Decided x) = answer.Decided x
-
--- what an accepted call answers
-abbrev pub says : {R : Type 0} → World R → Call R → Answer R
-says w (call.SendValue i j c x) = answer.Done
-says w (call.SendBit i j c b) = answer.Done
-says w (call.SendFinal i j) = answer.Done
-says w call.Close = answer.Done
-says w (call.Decision i c) = decision_answer (decision_of w.state.table w.values i c)
-says w (call.Undecided places) = answer.Count (undecided_count w.state.table)
+-- what an accepted call tells
+abbrev pub says : {R : Type 0} → World R → Call R → Told R
+says w (call.SendValue i j c x) = Done
+says w (call.SendBit i j c b) = Done
+says w (call.SendFinal i j) = Done
+says w call.Close = Done
+says w (call.Decision i c) = Decision (decision_of w.state.table w.values i c)
+says w (call.Undecided places) = Count (undecided_count w.state.table)
 
 -- what a call makes of the instance and its boards: a refusal alters nothing
 unfoldable pub after : {R : Type 0} → (R → ℕ) → World R → Move R → World R
 after meaning w v = if_accepted (refusal w v.fits v.call) (effect meaning v.tosses w v.call) w
 
 -- what a call answers
-unfoldable pub answered_by : {R : Type 0} → World R → Bool → Call R → Answer R
-answered_by w fits k = answer_of (refusal w fits k) (says w k)
+unfoldable pub answered_by : {R : Type 0} → World R → Bool → Call R → Result (Told R) Refusal
+answered_by w fits k = answered (refusal w fits k) (says w k)
 
 -- A call with its answer.
 pub record Asked (R : Type 0) : Type 0 where
   pub call : Call R
-  pub answer : Answer R
+  pub answer : Result (Told R) Refusal
 
 -- the instance and its boards after a list of calls
 unfoldable pub run : {R : Type 0} → (R → ℕ) → World R → List (Move R) → World R
@@ -175,9 +156,9 @@ pub record Ask : Type 0 where
   pub fits : Bool
 
 -- what an outcome with this table and this values board answers
-abbrev pub outcome_answer : {R : Type 0} → Table → List (Option R) → Ask → Answer R
+abbrev pub outcome_answer : {R : Type 0} → Table → List (Option R) → Ask → Result (Told R) Refusal
 outcome_answer t values a =
-    answer_of (decision_refusal t a.fits a.node a.item) (decision_answer (decision_of t values a.node a.item))
+    answered (decision_refusal t a.fits a.node a.item) (Decision (decision_of t values a.node a.item))
 
 -- the decisions asked of the outcome, with their answers
 unfoldable pub outcome_history : {R : Type 0} → Table → List (Option R) → List Ask → List (Asked R)

@@ -1,8 +1,9 @@
 //! The calls of a run, and what they answer, as values.
+use board::Decision;
 use refusal::Refusal;
 
 // A call on a setup.
-#[derive(Clone, Copy)]
+#[derive(Clone, Copy, PartialEq, Eq, Debug)]
 pub enum SetupCall<R> {
     MarkFaulty {
         node: usize,
@@ -15,7 +16,7 @@ pub enum SetupCall<R> {
 }
 
 // A call on an instance. `places` is the length of the lent list.
-#[derive(Clone, Copy)]
+#[derive(Clone, Copy, PartialEq, Eq, Debug)]
 pub enum Call<R> {
     SendValue {
         sender: usize,
@@ -43,17 +44,16 @@ pub enum Call<R> {
     },
 }
 
-// What a call answers.
-#[derive(Clone, Copy)]
-pub enum Answer<R> {
-    // The call was refused, and nothing was altered.
-    Refused(Refusal),
-    // The call was accepted, and has nothing more to say.
+// What an accepted call tells.
+#[derive(Clone, Copy, PartialEq, Eq, Debug)]
+pub enum Told<R> {
+    // It has nothing more to say.
     Done,
-    // The node has not decided the item.
-    Open,
-    // The node has decided the item: a reading, or none.
-    Decided(Option<R>),
+    // What the node has decided of the item.
+    Decision(Decision<R>),
     // How many items of honest nodes are undecided.
     Count(usize),
 }
+
+// What a call answers: what it tells, or why it was refused. A refusal alters nothing.
+pub type Answer<R> = Result<Told<R>, Refusal>;

@@ -1,14 +1,7 @@
-use Rattle.std.proofs.Common.{◌≡◌, ℕ, ◌+◌, ◌<◌, ◌≤◌, true, false, ltb, leb, List, [], ◌∷◌, ◌++◌, length, get_or, take, set, Some, None, refl, ⊎_elim, arith}
-use Rattle.std.proofs.lemmas.List.{take_more, take_more_set, length-take-le, length_push}
+use Rattle.std.proofs.Common.{◌≡◌, ℕ, zero, suc, ◌+◌, ◌<◌, ◌≤◌, true, false, ltb, leb, List, [], ◌∷◌, ◌++◌, length, get_or, take, Some, None, refl, ⊎_elim, arith}
+use Rattle.std.proofs.lemmas.List.{take_more, length_push}
 use Rattle.std.proofs.lemmas.Bool.{lt-ltb, le-ltb, le-leb, lt-leb, cases_lt, cond_both}
-use Rattle.lines.specs.Gathered.{pushed, gathered}
-
--- an octet written behind the octets that are held
-pub push_room : (os : List ℕ) (n limit b : ℕ) → n < limit → n < length os → Some (take (n + 1) (set os n b)) ≡ pushed limit (Some (take n os)) b
-push_room os n limit b h k =
-    let full : length (take n os) ≡ n = length-take-le n os (omega arith) in
-    let room : ltb n limit ≡ true = lt-ltb n limit h in
-    rw (full, room, take_more_set os n b k)
+use Rattle.lines.specs.Gathered.{begun, pushed, gathered}
 
 -- a full line holds no further octet
 full_push : (limit : ℕ) (bs : List ℕ) (b : ℕ) → limit ≤ length bs → pushed limit (gathered limit bs) b ≡ None
@@ -33,3 +26,9 @@ gathered_push limit bs b =
 -- the turn of a loop that pushes
 pub gathered_more : (limit : ℕ) (bs : List ℕ) (i : ℕ) → i < length bs → pushed limit (gathered limit (take i bs)) (get_or bs i 0) ≡ gathered limit (take (i + 1) bs)
 gathered_more limit bs i h = rw (take_more bs i 0 h) (gathered_push limit (take i bs) (get_or bs i 0))
+
+-- an octet has come if one is held
+pub begun_some : (os : List ℕ) (n : ℕ) → n ≤ length os → ltb 0 n ≡ begun (Some (take n os))
+begun_some os zero h = refl
+begun_some [] (suc n) h = absurd (omega arith)
+begun_some (b ∷ os) (suc n) h = lt-ltb 0 (suc n) (omega arith)

@@ -1,37 +1,42 @@
-use Rattle.std.proofs.Common.{◌≡◌, ℕ, ◌+◌, ◌-◌, ◌<◌, ◌≤◌, true, false, eqb, ltb, List, [], ◌∷◌, ◌++◌, length, get_or, take, drop, refl, ◌∙◌, arith}
-use Rattle.std.proofs.lemmas.List.{at_drop_more, at_drop_all, append_assoc, append-nil, take_more, get_or-drop, length-drop}
-use Rattle.std.proofs.lemmas.Bool.{eq-eqb, ne_eqb, lt-ltb, le-ltb, cond_both}
-use Rattle.lines.specs.Fields.{in_front, fields, fields_left, next_start}
-
--- an octet in front makes no field more
-length_in_front : (b : ℕ) (fs : List (List ℕ)) → 0 < length fs → length (in_front b fs) ≡ length fs
-length_in_front b [] h = absurd (omega arith)
-length_in_front b (f ∷ fs) h = refl
+use Rattle.std.proofs.Common.{◌≡◌, ℕ, ◌+◌, ◌-◌, ◌<◌, eqb, ltb, List, [], ◌∷◌, ◌++◌, length, take, drop, Some, refl, ⊎_elim, arith}
+use Rattle.std.proofs.lemmas.Bool.{ltb-true, cases_Bool, cond_both}
+use Rattle.std.proofs.lemmas.List.{take_rest, append_assoc}
+use Rattle.std.proofs.lemmas.List.Splits.{slice_split_first, length-slice_split}
+use Rattle.std.proofs.lemmas.List.Sums.{sum_by-cons}
+use Rattle.std.specs.List.{position, position_or_len, sum_by}
+use Rattle.lines.specs.Fields.{in_front, fields}
 
 -- every line has a field
 pub some_field : (p : ℕ) (bs : List ℕ) → 0 < length (fields p bs)
-some_field p [] = omega arith
-some_field p (b ∷ bs) =
-    cond_both (eqb b p) ([] ∷ fields p bs) (in_front b (fields p bs)) (λ fs. 0 < length fs)
-    (λ _. omega arith)
-    (λ _. rw (length_in_front b (fields p bs) (some_field p bs)) (some_field p bs))
+some_field p bs = omega (arith, length-slice_split (λ b. eqb b p) bs)
 
--- how many fields are left, one octet on
-pub parted : (p : ℕ) (bs : List ℕ) (i : ℕ) → i < length bs → get_or bs i 0 ≡ p → length (fields p (drop i bs)) ≡ length (fields p (drop (i + 1) bs)) + 1
-parted p bs i h e =
-    let step = at_drop_more (λ xs. length (fields p xs)) bs i 0 h in
-    let here : eqb (get_or bs i 0) p ≡ true = eq-eqb _ p e in
-    rw (step, here) (omega arith)
+-- where an octet parts, the first field ends at the first of them
+pub cut : (p : ℕ) (bs : List ℕ) (n : ℕ) → Some n ≡ position (λ b. eqb b p) bs → fields p bs ≡ take n bs ∷ fields p (take (length bs - (n + 1)) (drop (n + 1) bs))
+cut p bs n e =
+    let k = position_or_len (λ b. eqb b p) bs in
+    ⊎_elim
+    (λ t. let same : n ≡ k = cc in
+    let rest = take_rest bs (n + 1) in
+    rw (rest, same) (slice_split_first (λ b. eqb b p) bs 0 (ltb-true k (length bs) t)))
+    (λ t. absurd (let z : ◌≡◌ {A = ℕ} 0 1 = cc in omega arith))
+    (cases_Bool (ltb k (length bs)))
 
-pub unparted : (p : ℕ) (bs : List ℕ) (i : ℕ) → i < length bs → (get_or bs i 0 ≡ p → ⊥) → length (fields p (drop i bs)) ≡ length (fields p (drop (i + 1) bs))
-unparted p bs i h e =
-    let step = at_drop_more (λ xs. length (fields p xs)) bs i 0 h in
-    let here : eqb (get_or bs i 0) p ≡ false = ne_eqb _ p e in
-    rw (step, here) (length_in_front (get_or bs i 0) (fields p (drop (i + 1) bs)) (some_field p (drop (i + 1) bs)))
+-- the octets of fields, and one more for each
+abbrev pub octets_in : List (List ℕ) → ℕ
+octets_in = sum_by (λ f. length f + 1)
 
--- at the end one field is left, the empty one
-pub last_field : (p : ℕ) (bs : List ℕ) (i : ℕ) → length bs ≤ i → length (fields p (drop i bs)) ≡ 1
-last_field p bs i h = at_drop_all (λ xs. length (fields p xs)) bs i h
+in_front_octets : (b : ℕ) (fs : List (List ℕ)) → 0 < length fs → octets_in (in_front b fs) ≡ 1 + octets_in fs
+in_front_octets b [] h = absurd (omega arith)
+in_front_octets b (f ∷ fs) h =
+    rw (sum_by-cons (λ (g : List ℕ). length g + 1) (b ∷ f) fs, sum_by-cons (λ (g : List ℕ). length g + 1) f fs) (omega arith)
+
+-- a line has the octets of its fields, and one between each two
+pub octets_in_fields : (p : ℕ) (bs : List ℕ) → octets_in (fields p bs) ≡ length bs + 1
+octets_in_fields p [] = refl
+octets_in_fields p (b ∷ bs) =
+    cond_both (eqb b p) ([] ∷ fields p bs) (in_front b (fields p bs)) (λ fs. octets_in fs ≡ length (b ∷ bs) + 1)
+    (λ _. rw (sum_by-cons (λ (g : List ℕ). length g + 1) [] (fields p bs), octets_in_fields p bs) (omega arith))
+    (λ _. rw (in_front_octets b (fields p bs) (some_field p bs), octets_in_fields p bs) (omega arith))
 
 -- the fields with these octets in front of the first
 abbrev pub all_in_front : List ℕ → List (List ℕ) → List (List ℕ)
@@ -46,33 +51,3 @@ front_push bs b (f ∷ fs) h = rw append_assoc
 pub front_none : (fs : List (List ℕ)) → 0 < length fs → fs ≡ all_in_front [] fs
 front_none [] h = absurd (omega arith)
 front_none (f ∷ fs) h = refl
-
--- a walk from s to e over the octets of a field: its start
-pub walk_none : (p : ℕ) (bs : List ℕ) (s : ℕ) → fields p (drop s bs) ≡ all_in_front (take (s - s) (drop s bs)) (fields p (drop s bs))
-walk_none p bs s = let z : s - s ≡ 0 = omega arith in rw z (front_none (fields p (drop s bs)) (some_field p (drop s bs)))
-
--- one octet on
-pub walk_more : (p : ℕ) (bs : List ℕ) (s e : ℕ) → s ≤ e → e < length bs → (get_or bs e 0 ≡ p → ⊥) → all_in_front (take (e - s) (drop s bs)) (fields p (drop e bs)) ≡ all_in_front (take (e + 1 - s) (drop s bs)) (fields p (drop (e + 1) bs))
-walk_more p bs s e h k ne =
-    let here : eqb (get_or bs e 0) p ≡ false = ne_eqb _ p ne in
-    let step : fields p (drop e bs) ≡ in_front (get_or bs e 0) (fields p (drop (e + 1) bs)) = at_drop_more (fields p) bs e 0 k ∙ (rw here) in
-    let n : e + 1 - s ≡ (e - s) + 1 = omega arith in
-    let at : s + (e - s) ≡ e = omega arith in
-    let long : e - s < length (drop s bs) = simp length-drop (omega arith) in
-    let grown : take (e + 1 - s) (drop s bs) ≡ take (e - s) (drop s bs) ++ (get_or bs e 0 ∷ []) = rw (n, take_more (drop s bs) (e - s) 0 long, get_or-drop s bs (e - s) 0, at) in
-    rw (step, grown) (front_push (take (e - s) (drop s bs)) (get_or bs e 0) (fields p (drop (e + 1) bs)) (some_field p (drop (e + 1) bs)))
-
--- at the octet that parts
-pub walk_part : (p : ℕ) (bs xs : List ℕ) (e : ℕ) → e < length bs → get_or bs e 0 ≡ p → all_in_front xs (fields p (drop e bs)) ≡ xs ∷ fields_left p bs (next_start (length bs) e)
-walk_part p bs xs e h same =
-    let here : eqb (get_or bs e 0) p ≡ true = eq-eqb _ p same in
-    let step : fields p (drop e bs) ≡ [] ∷ fields p (drop (e + 1) bs) = at_drop_more (fields p) bs e 0 h ∙ (rw here) in
-    let more : ltb e (length bs) ≡ true = lt-ltb e (length bs) h in
-    rw (step, more, append-nil xs)
-
--- at the end of the line
-pub walk_end : (p : ℕ) (bs xs : List ℕ) (e : ℕ) → length bs ≤ e → all_in_front xs (fields p (drop e bs)) ≡ xs ∷ fields_left p bs (next_start (length bs) e)
-walk_end p bs xs e h =
-    let step : fields p (drop e bs) ≡ [] ∷ [] = at_drop_all (fields p) bs e h in
-    let done : ltb e (length bs) ≡ false = le-ltb e (length bs) h in
-    rw (step, done, append-nil xs)

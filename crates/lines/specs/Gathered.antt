@@ -1,16 +1,27 @@
 -- What a line holds while its octets come in.
-use Rattle.std.specs.Prelude.{ℕ, cond, List, [], ◌∷◌, ◌++◌, length, take, Some, None, Ok, Err, Option, Result, nat_le, nat_lt}
+use Rattle.std.specs.Prelude.{ℕ, ◌≤◌, Bool, true, false, cond, List, [], ◌∷◌, ◌++◌, length, Some, None, Ok, Err, Option, Result, IfSome, nat_le, nat_lt}
 use Rattle.refusal.specs.declared.Refusal.{Refusal}
 use Rattle.refusal.specs.declared.Refusal.TheVariants.{Torn}
-use Rattle.lines.specs.declared.buffer.Line.{Line}
 
--- the octets of a line, or none if there were too many
-abbrev pub held : Line → Option (List ℕ)
-held l = cond l.over None (Some (take l.count l.octets))
+-- a line as its octets come in: how many it takes at most, and those that have come, or none if there were too many
+pub record Gathered : Type 0 where
+  pub limit : ℕ
+  pub octets : Option (List ℕ)
+
+-- what a line keeps finds room: at most `limit` octets, and never more than 200
+pub record HasRoom (g : Gathered) : Type 0 where
+  pub kept : IfSome g.octets (λ os. length os ≤ g.limit)
+  pub room : g.limit ≤ 200
 
 -- what an empty line holds
 abbrev pub empty : Option (List ℕ)
 empty = Some []
+
+-- whether an octet of a line has come
+abbrev pub begun : Option (List ℕ) → Bool
+begun None = true
+begun (Some []) = false
+begun (Some (b ∷ bs)) = true
 
 -- what a line of at most `limit` octets holds after one more octet
 abbrev pub pushed : ℕ → Option (List ℕ) → ℕ → Option (List ℕ)

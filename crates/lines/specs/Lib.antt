@@ -1,4 +1,5 @@
 pub mod Gathered
+pub mod Coming
 pub mod Fields
 pub mod Walk
 pub mod Digits

@@ -1,50 +1,25 @@
 //! Octets in hexadecimal.
-ghost use Rattle.std.specs.Prelude.{◌≡◌, ◌*◌, ◌<◌, ◌≤◌, true, [], ◌∷◌, length, is_some, IfSome, Some};
+ghost use Rattle.std.specs.Prelude.{◌≡◌, ◌*◌, ◌<◌, ◌≤◌, true, [], ◌∷◌, length, slice_index, is_some, Some};
 ghost use Rattle.lines.specs.Digits.{octet_of, octets_of, hex_octets_of, written, hex_digit, hex_digits};
 ghost use Rattle.std.specs.Option.{option_map};
 
 use crate::digits::digit;
 
 // The octet that two hexadecimal digits write.
-fn octet(high: u8, low: u8) -> Option<u8>
-    ensures { result ≡ octet_of high low }
+fn octet(digits: &[u8; 2]) -> Option<u8>
+    ensures { result ≡ octet_of (slice_index digits.now 0) (slice_index digits.now 1) }
 {
-    let high = digit(high, 16)?;
-    let low = digit(low, 16)?;
+    let high = digit(digits[0], 16)?;
+    let low = digit(digits[1], 16)?;
     Some(high * 16 + low)
 }
 
-// How many octets a field writes, two hexadecimal digits each.
-fn count_octets(field: &[u8]) -> Option<usize>
-    ensures count { result ≡ option_map (λ os. length os) (octets_of field.now) }
-    ensures pairs { IfSome result (λ n. n * 2 ≡ length field.now) }
+// Whether a field is octets, two hexadecimal digits each.
+fn is_octets(field: &[u8]) -> bool
+    ensures { result ≡ is_some (octets_of field.now) }
 {
-    let mut count = 0;
-    let mut rest = field;
-    while let [high, low, more @ ..] = rest {
-        let _ = octet(*high, *low)?;
-        count += 1;
-        rest = more;
-    }
-    if rest.is_empty() { Some(count) } else { None }
-}
-
-// Writes the octets of a field, two hexadecimal digits each, to the front of `out`.
-fn write_octets(field: &[u8], out: &mut [u8])
-    requires octets { is_some (octets_of field.now) ≡ true }
-    requires room { length field.now ≤ length out.old * 2 }
-    ensures { out.new ≡ written (octets_of field.now) out.old }
-{
-    let mut place = 0;
-    let mut rest = field;
-    while let [high, low, more @ ..] = rest {
-        let Some(value) = octet(*high, *low) else {
-            unreachable()
-        };
-        out[place] = value;
-        place += 1;
-        rest = more;
-    }
+    let (pairs, rest) = field.as_chunks::<2>();
+    rest.is_empty() && pairs.iter().all(|pair| octet(pair).is_some())
 }
 
 // Writes the octets of a field, two hexadecimal digits each, to the front of `out`, and says how many.
@@ -53,12 +28,15 @@ pub fn hex_octets(field: &[u8], out: &mut [u8]) -> Option<usize>
     ensures count { result ≡ option_map (λ os. length os) (hex_octets_of (length out.old) field.now) }
     ensures places { out.new ≡ written (hex_octets_of (length out.old) field.now) out.old }
 {
-    let count = count_octets(field)?;
-    if count == 0 || count > out.len() {
+    let (pairs, _) = field.as_chunks::<2>();
+    if pairs.is_empty() || pairs.len() > out.len() || !is_octets(field) {
         return None;
     }
-    write_octets(field, out);
-    Some(count)
+    // Each pair writes an octet, as `is_octets` has found.
+    for (place, pair) in pairs.iter().enumerate() {
+        out[place] = octet(pair)?;
+    }
+    Some(pairs.len())
 }
 
 // The hexadecimal digit of a value.

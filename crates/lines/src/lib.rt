@@ -2,15 +2,16 @@
 //! Octet 10 ends a line; every other octet is an ordinary one.
 #![tactic(auto)]
 
-mod buffer;
 mod cursor;
 mod digits;
 mod gather;
 mod hex;
+mod incoming;
 mod split;
 
-pub use buffer::Line;
 pub use cursor::Fields;
 pub use digits::{decimal, hex_word, hexadecimal};
+pub use gather::Line;
 pub use hex::{hex_digits, hex_octets};
-pub use split::{count_fields, dash, field, field_place};
+pub use incoming::Incoming;
+pub use split::{count_fields, dash, field, field_place, number};

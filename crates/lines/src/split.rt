@@ -1,37 +1,29 @@
 //! The fields of a line.
-ghost use Rattle.std.specs.Prelude.{◌≡◌, ◌-◌, ◌≤◌, ◌∷◌, length, take, drop};
-ghost use Rattle.lines.specs.Fields.{fields, fields_left, next_start, place_of, is_dash};
+ghost use Rattle.std.specs.Prelude.{◌≡◌, ◌∷◌, length, drop, ⊤};
+ghost use Rattle.lines.specs.Fields.{fields, fields_left, place_of, number_at, is_dash};
 ghost use Rattle.lines.specs.Walk.{to_come};
+ghost use Rattle.std.specs.Iterator.{YieldsFirstRef, item_count, MakesProgress};
 ghost use Rattle.std.specs.Option.{option_map};
 ghost use Rattle.std.specs.List.{slice_get};
 
 use crate::cursor::Fields;
+use crate::digits::decimal;
 
 // How many fields a line has, parted at each octet `part`.
 pub fn count_fields(line: &[u8], part: u8) -> usize
     ensures { result ≡ length (fields part line.now) }
 {
-    let mut count = 1;
-    for octet in line {
-        if *octet == part {
-            count += 1;
-        }
-    }
-    count
+    line.iter().filter(|octet| **octet == part).count() + 1
 }
 
-// The end of the field that begins at `start`: the place of the next octet `part`, or the line's end.
-fn field_end(line: &[u8], part: u8, start: usize) -> usize
-    requires { start ≤ length line.now }
-    ensures after { start ≤ result }
-    ensures within { result ≤ length line.now }
-    ensures parts { fields part (drop start line.now) ≡ take (result - start) (drop start line.now) ∷ fields_left part line.now (next_start (length line.now) result) }
+// The first field of a line, and what stands behind the octet `part` that ends it, if one does.
+fn first_field(line: &[u8], part: u8) -> (&[u8], Option<&[u8]>)
+    ensures { fields part line.now ≡ result.0.now ∷ fields_left part (option_map (λ r. r.now) result.1) }
 {
-    let mut end = start;
-    while end < line.len() && line[end] != part {
-        end += 1;
+    match line.iter().position(|octet| *octet == part) {
+        Some(end) => (&line[..end], Some(&line[end + 1..])),
+        None => (line, None),
     }
-    end
 }
 
 impl<'a> Fields<'a> {
@@ -40,26 +32,29 @@ impl<'a> Fields<'a> {
         ensures { to_come result ≡ fields part line.now }
     {
         Fields {
-            line,
+            rest: Some(line),
             part,
-            start: Some(0),
         }
     }
+}
+
+impl<'a> Iterator for Fields<'a> {
+    type Item = &'a [u8];
+
+    ghost next_gives = { YieldsFirstRef to_come };
+
+    ghost remaining = { item_count to_come };
 
     // The next field, if there is one.
-    pub fn next(&mut self) -> Option<&'a [u8]>
+    fn next(&mut self) -> Option<&'a [u8]>
+        ensures steps { YieldsFirstRef to_come self.old result self.new }
+        ensures goes { MakesProgress (λ _. ⊤) (item_count to_come) self.old result self.new }
         ensures field { option_map (λ f. f.now) result ≡ slice_get (to_come self.old) 0 }
         ensures left { to_come self.new ≡ drop 1 (to_come self.old) }
     {
-        let start = self.start?;
-        let line = self.line;
-        let end = field_end(line, self.part, start);
-        self.start = if end < line.len() {
-            Some(end + 1)
-        } else {
-            None
-        };
-        Some(&line[start..end])
+        let (field, rest) = first_field(self.rest?, self.part);
+        self.rest = rest;
+        Some(field)
     }
 }
 
@@ -67,31 +62,33 @@ impl<'a> Fields<'a> {
 pub fn field(line: &[u8], part: u8, index: usize) -> Option<&[u8]>
     ensures { option_map (λ f. f.now) result ≡ slice_get (fields part line.now) index }
 {
-    let mut walk = Fields::new(line, part);
-    for _k in 0..index {
-        let _ = walk.next()?;
-    }
-    walk.next()
+    Fields::new(line, part).nth(index)
+}
+
+// The number in the field at an index, if the line has one there of one to five decimal digits.
+pub fn number(line: &[u8], part: u8, index: usize) -> Option<usize>
+    ensures { result ≡ number_at (fields part line.now) index }
+{
+    let number = decimal(field(line, part, index)?)?;
+    Some(number as usize)
 }
 
 // Where the field at an index, counted from 0, begins in the line, if there is one.
 pub fn field_place(line: &[u8], part: u8, index: usize) -> Option<usize>
     ensures { result ≡ place_of (fields part line.now) index }
 {
-    let mut start = 0;
-    for _k in 0..index {
-        let end = field_end(line, part, start);
-        if end == line.len() {
-            return None;
-        }
-        start = end + 1;
+    let mut walk = Fields::new(line, part);
+    let mut place = 0;
+    for _ in 0..index {
+        place += walk.next()?.len() + 1;
     }
-    Some(start)
+    let _ = walk.next()?;
+    Some(place)
 }
 
 // Whether a field is a dash.
 pub fn dash(field: &[u8]) -> bool
     ensures { result ≡ is_dash field.now }
 {
-    field.len() == 1 && field[0] == b'-'
+    matches!(field, [b'-'])
 }

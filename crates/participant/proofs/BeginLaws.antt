@@ -1,5 +1,5 @@
 -- Beginning a run of one node.
-use Rattle.std.proofs.Common.{◌≡◌, ℕ, zero, suc, ◌+◌, ◌*◌, ◌≤◌, Bool, true, false, cond, not, ◌||◌, eqb, ltb, leb, List, [], ◌∷◌, ◌++◌, map, length, set, replicate, Some, None, Ok, Err, vec_items, filter, Option, sym, refl, ap, ◌∙◌, subst, inl, inr, add-one, arith}
+use Rattle.std.proofs.Common.{◌≡◌, ℕ, zero, suc, ◌+◌, ◌*◌, ◌≤◌, Bool, true, false, cond, not, ◌||◌, eqb, ltb, leb, List, [], ◌∷◌, ◌++◌, map, length, set, replicate, Some, None, Ok, Err, filter, Option, Result, sym, refl, ap, ◌∙◌, subst, inl, inr, add-one, arith}
 use lib.ListN.{length-replicate}
 use Rattle.std.specs.List.{range_with_len}
 use Rattle.std.proofs.lemmas.List.Elements.{filter-append}
@@ -8,19 +8,19 @@ use Rattle.std.proofs.lemmas.Bool.{cases_Bool, le-ltb, eq-eqb, ne_eqb}
 use Rattle.std.proofs.lemmas.Bool.Decides.{nat_tests}
 use Rattle.refusal.specs.declared.Refusal.{Refusal}
 use Rattle.refusal.specs.declared.Refusal.TheVariants.{BadSize, Short, Torn, NoNode}
-use Rattle.refusal.specs.Refusals.{refuse}
+use Rattle.refusal.specs.Refusals.{refuse, answered}
 use Rattle.board.specs.Tables.{written}
 use Rattle.board.specs.Setups.{make_refusal, if_accepted, blank_values, blank_marks}
 use Rattle.agreement.specs.declared.states.Setup.{Setup}
 use Rattle.agreement.specs.Setups.{Makes, made, opened}
 use Rattle.law.specs.declared.calls.SetupCall.{SetupCall}
 use Rattle.law.specs.declared.calls.SetupCall.TheVariants.{MarkFaulty}
-use Rattle.law.specs.declared.calls.Answer.{Answer}
+use Rattle.law.specs.declared.calls.Told.{Told}
 use Rattle.law.specs.Runs.{SetupMove, Prepared, setup_after, setup_run}
 use Rattle.play.specs.Moves.{setup_move_of, SetupMade}
 use Rattle.play.specs.Played.{bad_sizes}
 use Rattle.play.proofs.Pushes.{setup_run_push}
-use Rattle.participant.specs.declared.state.Participant.{Participant}
+use Rattle.participant.specs.Held.{Held}
 use Rattle.participant.specs.Participants.{size_refusal, begin_refusal, setup_move, faulty_moves, cell_moves, first_setup, Opens, Begins}
 use Rattle.participant.proofs.Same.{same_held}
 use Rattle.participant.proofs.BoardLaws.{few_cells, few_pairs, cells_fit}
@@ -32,7 +32,7 @@ module _ {R : Type 0} where
   none_yet p = refl
 
   -- one more call on the setup, whose values board is long enough
-  pub one_more : (p₀ p q : Prepared R) (vs : List (SetupMove R)) (k : SetupCall R) (a : Answer R) → length p.values ≡ 256 → p ≡ setup_run p₀ vs
+  pub one_more : (p₀ p q : Prepared R) (vs : List (SetupMove R)) (k : SetupCall R) (a : Result (Told R) Refusal) → length p.values ≡ 256 → p ≡ setup_run p₀ vs
       → SetupMade (setup_move_of p.table.n p.table.m p.values k) p q a → q ≡ setup_run p₀ (vs ++ setup_move k ∷ [])
   one_more p₀ p q vs k a l e d =
       d.setup ∙ ap (λ f. setup_after p (record { call = k; fits = f })) (cells_fit p.table p.values l)
@@ -136,6 +136,11 @@ module _ {R : Type 0} (n m i : ℕ) (cells vs : List (Option R)) (ms : List ℕ)
   pub instance_refused : (e : Refusal) (vs' : List (Option R)) (ms' : List ℕ) → Makes n m (make_refusal n m (length vs) (length ms)) (Err e) → Opens n m i cells (size_refusal n m) vs' ms' (Err e)
   instance_refused e vs' ms' h = subst (λ o. Opens n m i cells o vs' ms' (Err e)) blank_refusal (refused_by (make_refusal n m (length vs) (length ms)) e vs' ms' h)
 
+-- checks that let a call pass did not hit
+pub passed : {X : Type 0} (o : Option Refusal) (y x : X) → Ok y ≡ answered o x → None ≡ o
+passed None y x e = refl
+passed (Some d) y x e = absurd (let z : ◌≡◌ {A = ℕ} 0 1 = cc in omega arith)
+
 -- the checks of beginning that did not hit
 none_hit : (x y z u : Bool) → None ≡ refuse x BadSize (refuse y Short (refuse z Torn (refuse u NoNode None))) → (x ≡ false) × (y ≡ false)
 none_hit true y z u e = absurd (let q : ◌≡◌ {A = ℕ} 0 1 = cc in omega arith)
@@ -148,20 +153,20 @@ few_entries k e = (grind (arith, nat_tests), grind (arith, nat_tests))
 pub strip_long : (n m i entries cells : ℕ) → None ≡ begin_refusal n m i entries cells → (1 ≤ entries) × (entries ≤ 8)
 strip_long n m i entries cells e = few_entries entries (none_hit (bad_sizes n m) (eqb entries 0 || ltb 8 entries) (not (eqb cells m)) (leb n i) e).1
 
-module _ {R : Type 0} (n m : ℕ) (es : List ℕ) (cells vs : List (Option R)) (ms : List ℕ) (s : Participant R) where
+module _ {R : Type 0} (n m i : ℕ) (es : List ℕ) (cells vs : List (Option R)) (ms : List ℕ) (h : Held R) where
   -- the participant with an instance that was opened on its boards
-  pub participant_begun : None ≡ begin_refusal n m s.node (length es) (length cells) → Opens n m s.node cells (size_refusal n m) vs ms (Ok s.instance)
-      → vec_items s.values ≡ vs → vec_items s.sent ≡ replicate 4096 None → vec_items s.marks ≡ ms → vec_items s.entries ≡ es
-      → Begins n m s.node es cells (begin_refusal n m s.node (length es) (length cells)) (Ok s)
-  participant_begun e h ev et em ee =
-      let i = s.node in
+  pub participant_begun : None ≡ begin_refusal n m i (length es) (length cells) → Opens n m i cells (size_refusal n m) vs ms (Ok h.world.state)
+      → h.node ≡ i → h.world.values ≡ vs → h.world.sent ≡ replicate 4096 None → h.world.marks ≡ ms → h.strip ≡ es
+      → Begins n m i es cells (begin_refusal n m i (length es) (length cells)) (Ok h)
+  participant_begun e o ei ev et em ee =
       let right : size_refusal n m ≡ None =
       ap (λ b. refuse b BadSize None) (none_hit (bad_sizes n m) (eqb (length es) 0 || ltb 8 (length es)) (not (eqb (length cells) m)) (leb n i) e).0 in
-      let x = subst (λ o. Opens n m i cells o vs ms (Ok s.instance)) right h in
+      let x = subst (λ q. Opens n m i cells q vs ms (Ok h.world.state)) right o in
       let p = first_setup n m x.0 i cells in
-      let same : s.instance ≡ opened (record { table = p.table }) = let q = x.1 in cc in
-      subst (λ o. Begins n m i es cells o (Ok s)) e (
+      let same : h.world.state ≡ opened (record { table = p.table }) = let q = x.1 in cc in
+      subst (λ q. Begins n m i es cells q (Ok h)) e (
         x.0,
-        ap Ok (same_held i s.instance (opened (record { table = p.table })) (vec_items s.values) p.values (vec_items s.sent) (replicate 4096 None)
-            (vec_items s.marks) (replicate 4096 0) (vec_items s.entries) es same (ev ∙ x.2) et (em ∙ x.3) ee),
+        ap (λ k. Ok (record { node = k; world = h.world; strip = h.strip })) ei
+            ∙ ap Ok (same_held i h.world.state (opened (record { table = p.table })) h.world.values p.values h.world.sent (replicate 4096 None)
+            h.world.marks (replicate 4096 0) h.strip es same (ev ∙ x.2) et (em ∙ x.3) ee),
       )

@@ -12,12 +12,13 @@ use Rattle.agreement.specs.Calls.{close_refusal}
 use Rattle.agreement.specs.Done.{CloseDone}
 use Rattle.law.specs.declared.calls.Call.{Call}
 use Rattle.law.specs.declared.calls.Call.TheVariants as call
-use Rattle.law.specs.declared.calls.Answer.{Answer}
+use Rattle.law.specs.declared.calls.Told.{Told}
 use Rattle.law.specs.Runs.{World, effect, run, history, after}
 use Rattle.play.specs.Moves.{call_says}
 use Rattle.wire.specs.Messages.{Parts}
 use Rattle.relay.specs.Deliveries.{calls_of, deliver_refusal, lent, Delivers}
-use Rattle.participant.specs.Participants.{Held, hear_refusal, heard_calls, strip_move, strip_moves, with_world}
+use Rattle.participant.specs.Held.{Held}
+use Rattle.participant.specs.Participants.{hear_refusal, heard_calls, strip_move, strip_moves, with_world}
 use Rattle.participant.proofs.BoardLaws.{Long, cells_fit, pairs_fit, moves_fit}
 
 -- a strip that was made stands over the entries that it was given
@@ -63,14 +64,14 @@ module _ {R : Type 0} (meaning : R → ℕ) (h : Held R) where
       }
 
 -- what hearing answers, and what it leaves
-pub record Hears {R : Type 0} (meaning : R → ℕ) (w : ℕ) (reads : List ℕ → Option R) (h h' : Held R) (q : Result Parts Fault) (old answers : List (Answer R)) (r : Result ℕ Refusal) : Type 0 where
+pub record Hears {R : Type 0} (meaning : R → ℕ) (w : ℕ) (reads : List ℕ → Option R) (h h' : Held R) (q : Result Parts Fault) (old answers : List (Result (Told R) Refusal)) (r : Result ℕ Refusal) : Type 0 where
   pub answer : r ≡ answered (hear_refusal w reads h (length old) q) (length (heard_calls w reads h q))
   pub held : h' ≡ if_accepted (hear_refusal w reads h (length old) q) (with_world h (run meaning h.world (strip_moves h.strip (heard_calls w reads h q)))) h
   pub said : answers ≡ if_accepted (hear_refusal w reads h (length old) q) (call_says (history meaning h.world (strip_moves h.strip (heard_calls w reads h q))) ++ drop (length (heard_calls w reads h q)) old) old
 
 module _ {R : Type 0} (meaning : R → ℕ) (w : ℕ) (reads : List ℕ → Option R) (h : Held R) where
   -- a message that was read is delivered
-  module _ (s' : Instance) (sent' : List (Option R)) (marks' : List ℕ) (ks : List (Call R)) (old answers : List (Answer R)) (l : Long (lent h.world.values (replicate 256 None) h.world.sent h.world.marks)) where
+  module _ (s' : Instance) (sent' : List (Option R)) (marks' : List ℕ) (ks : List (Call R)) (old answers : List (Result (Told R) Refusal)) (l : Long (lent h.world.values (replicate 256 None) h.world.sent h.world.marks)) where
     delivered_held : (o : Option Refusal) → Delivers meaning h.world.state s' h.world.sent sent' h.world.marks marks' o ks old answers
         → then_held h s' h.world.values sent' marks' ≡ if_accepted o (with_world h (run meaning h.world (strip_moves h.strip ks))) h
     delivered_held None d =
@@ -89,7 +90,7 @@ module _ {R : Type 0} (meaning : R → ℕ) (w : ℕ) (reads : List ℕ → Opti
         (moves_fit h.world.state.table (lent h.world.values (replicate 256 None) h.world.sent h.world.marks) l h.strip ks)
     delivered_said (Some e) d = d.3
 
-  pub heard : (p : Parts) (q : Result Parts Fault) (s' : Instance) (sent' : List (Option R)) (marks' : List ℕ) (old answers : List (Answer R)) (r : Result ℕ Refusal)
+  pub heard : (p : Parts) (q : Result Parts Fault) (s' : Instance) (sent' : List (Option R)) (marks' : List ℕ) (old answers : List (Result (Told R) Refusal)) (r : Result ℕ Refusal)
       → length h.world.values ≡ 256 → length h.world.sent ≡ 4096 → length h.world.marks ≡ 4096 → Ok p ≡ q
       → r ≡ answered (deliver_refusal w reads h.node p h.world.state (length old)) (length (calls_of w reads h.node p))
       → Delivers meaning h.world.state s' h.world.sent sent' h.world.marks marks' (deliver_refusal w reads h.node p h.world.state (length old)) (calls_of w reads h.node p) old answers

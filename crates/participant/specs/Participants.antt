@@ -1,7 +1,6 @@
 -- A participant as plain lists, and what its calls make of it.
-use Rattle.std.specs.Prelude.{◌≡◌, ℕ, ◌≤◌, true, not, ◌||◌, List, [], ◌++◌, map, length, replicate, Some, None, Ok, Err, vec_items, filter, Option, Result, ◌==◌, nat_le, nat_lt, slice_index_or}
+use Rattle.std.specs.Prelude.{◌≡◌, ℕ, ◌≤◌, true, not, ◌||◌, List, [], ◌++◌, map, length, replicate, Some, None, Ok, Err, filter, Option, Result, ◌==◌, nat_le, nat_lt, slice_index_or}
 use Rattle.std.specs.List.{range_with_len}
-use Rattle.std.specs.Result.{result_map_both}
 use Rattle.refusal.specs.declared.Refusal.{Refusal}
 use Rattle.refusal.specs.declared.Refusal.TheVariants.{BadSize, Short, NoNode, Torn}
 use Rattle.refusal.specs.declared.Fault.{Fault}
@@ -17,20 +16,7 @@ use Rattle.play.specs.Played.{bad_sizes}
 use Rattle.wire.specs.Messages.{Parts}
 use Rattle.wire.specs.Reads.{read_answer}
 use Rattle.relay.specs.Deliveries.{calls_of, deliver_refusal}
-use Rattle.participant.specs.declared.state.Participant.{Participant}
-
--- A participant as plain lists: its node, the instance with its boards, and the entries of its strip.
-pub record Held (R : Type 0) : Type 0 where
-  pub node : ℕ
-  pub world : World R
-  pub strip : List ℕ
-
-abbrev pub held : {R : Type 0} → Participant R → Held R
-held s = record {
-  node = s.node;
-  world = record { state = s.instance; values = vec_items s.values; sent = vec_items s.sent; marks = vec_items s.marks };
-  strip = vec_items s.entries;
-}
+use Rattle.participant.specs.Held.{Held}
 
 -- the check of the sizes
 abbrev pub size_refusal : ℕ → ℕ → Option Refusal
@@ -79,9 +65,9 @@ module _ {R : Type 0} where
   opened_world p = record { state = opened (record { table = p.table }); values = p.values; sent = replicate 4096 None; marks = replicate 4096 0 }
 
   -- what beginning answers: the refusal, or else the new participant, whose sizes are right
-  abbrev pub Begins : ℕ → ℕ → ℕ → List ℕ → List (Option R) → Option Refusal → Result (Participant R) Refusal → Type 0
+  abbrev pub Begins : ℕ → ℕ → ℕ → List ℕ → List (Option R) → Option Refusal → Result (Held R) Refusal → Type 0
   Begins n m i es cells None r = (sizes : Right n m)
-      × (result_map_both held (λ e. e) r ≡ Ok (record { node = i; world = opened_world (first_setup n m sizes i cells); strip = es }))
+      × (r ≡ Ok (record { node = i; world = opened_world (first_setup n m sizes i cells); strip = es }))
   Begins n m i es cells (Some e) r = r ≡ Err e
 
   -- a call on the instance, whose boards are long enough, and whose coin is a strip with these entries

@@ -5,7 +5,7 @@ use Rattle.refusal.specs.Refusals.{answered}
 use Rattle.board.specs.declared.states.Decision.{Decision}
 use Rattle.board.specs.declared.states.Decision.TheVariants.{Undecided, Decided}
 use Rattle.board.specs.Looks.{decision_refusal, decision_of}
-use Rattle.participant.specs.Participants.{Held}
+use Rattle.participant.specs.Held.{Held}
 
 module _ {X : Type 0} where
   -- a list with one more element, if both are there

@@ -1,7 +1,7 @@
 //! The participant.
-ghost use Rattle.std.specs.Prelude.{◌≡◌, ◌≤◌, vec_len};
-
 use agreement::Instance;
+use play::OwnedBoards;
+use std::marker::Model;
 
 // A run of one node: an instance in which every other node is faulty, so that what they send comes by messages alone.
 // It has its boards, which suffice for 16 nodes and 16 items, and the entries of the strip that its closes bring.
@@ -9,12 +9,18 @@ use agreement::Instance;
 pub struct Participant<R> {
     pub(crate) instance: Instance,
     pub(crate) node: usize,
-    pub(crate) values: Vec<Option<R>>,
-    pub(crate) scratch: Vec<Option<R>>,
-    pub(crate) sent: Vec<Option<R>>,
-    pub(crate) marks: Vec<u8>,
+    pub(crate) boards: OwnedBoards<R>,
     pub(crate) entries: Vec<u16>,
-    ghost cells: { (vec_len values ≡ 256) × (vec_len scratch ≡ 256) },
-    ghost pairs: { (vec_len sent ≡ 4096) × (vec_len marks ≡ 4096) },
-    ghost strip: { (1 ≤ vec_len entries) × (vec_len entries ≤ 8) },
+}
+
+// Clauses see its node, the instance with what stands on its boards, and the entries of its strip, of which there are 1 to 8.
+impl<R> Model for Participant<R> {
+    ghost use Rattle.std.specs.Prelude.{◌≤◌, vec_items, vec_len};
+    ghost use Rattle.participant.specs.Held.{Held};
+
+    ghost Value = { Held R };
+
+    ghost view = { λ s. record { node = s.node; world = record { state = s.instance; values = vec_items s.boards.values; sent = vec_items s.boards.sent; marks = vec_items s.boards.marks }; strip = vec_items s.entries } };
+
+    ghost invariant = { λ s. (1 ≤ vec_len s.entries) × (vec_len s.entries ≤ 8) };
 }

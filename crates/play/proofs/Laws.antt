@@ -1,5 +1,5 @@
 -- The law of the answers that a script writes.
-use Rattle.std.proofs.Common.{◌≡◌, ℕ, ◌+◌, ◌*◌, ◌<◌, ◌≤◌, Bool, true, false, ◌&&◌, leb, List, [], ◌∷◌, ◌++◌, map, length, drop, replicate, Some, None, Option, sym, refl, ap, ◌∙◌, subst, ap₂, inl, inr, arith}
+use Rattle.std.proofs.Common.{◌≡◌, ℕ, ◌+◌, ◌*◌, ◌<◌, ◌≤◌, Bool, true, false, ◌&&◌, leb, List, [], ◌∷◌, ◌++◌, map, length, drop, replicate, Some, None, Option, sym, refl, ap, ◌∙◌, subst, ap₂, inl, inr, arith, Result}
 use Rattle.std.proofs.lemmas.List.{append-nil, length-append, length-replicate, length-map, drop_at}
 use Rattle.std.proofs.lemmas.Bool.{true≢false, cases_Bool, leb-true, le-leb}
 use Rattle.refusal.specs.declared.Refusal.{Refusal}
@@ -10,25 +10,25 @@ use Rattle.board.specs.Setups.{blank_values, blank_marks, if_accepted}
 use Rattle.law.specs.declared.calls.SetupCall.{SetupCall}
 use Rattle.law.specs.declared.calls.Call.{Call}
 use Rattle.law.specs.declared.calls.Call.TheVariants as call
-use Rattle.law.specs.declared.calls.Answer.{Answer}
+use Rattle.law.specs.declared.calls.Told.{Told}
 use Rattle.law.specs.Runs.{Tosses, Prepared, SetupMove, setup_after, setup_answer, setup_history, World, Move, refusal, effect, answered_by, after, history, outcome_history}
 use Rattle.law.specs.Law.{Sizes, Boards, Plain, with_coin, asked, faulty_count, Kept, TossesAlike, Delayed}
 use Rattle.law.proofs.Lawful.{law}
-use Rattle.law.proofs.Boards.{length_written}
+use Rattle.board.proofs.Boards.{length_written}
 use Rattle.play.specs.Moves.{Lent, fits_call, move_of, moves_of, setup_move_of, setup_moves_of, setup_says, call_says}
 use Rattle.play.specs.Played.{asked_first, first_world, asked_next, Ran, paired_setup, paired, blanked, FitAlike, new_table, Lawful}
 use Rattle.play.proofs.Pushes.{length_setup_says}
 
 module _ {R : Type 0} where
   -- the answers that were written, paired with their calls
-  paired_setup_says : (p : Prepared R) (F : SetupCall R → SetupMove R) → ((k : SetupCall R) → (F k).call ≡ k) → (ks : List (SetupCall R)) (rest : List (Answer R)) →
+  paired_setup_says : (p : Prepared R) (F : SetupCall R → SetupMove R) → ((k : SetupCall R) → (F k).call ≡ k) → (ks : List (SetupCall R)) (rest : List (Result (Told R) Refusal)) →
       paired_setup ks (setup_says (setup_history p (map F ks)) ++ rest) ≡ setup_history p (map F ks)
   unfolding setup_history
   paired_setup_says p F e [] rest = refl
   paired_setup_says p F e (k ∷ ks) rest =
       ap₂ (λ c h. record { call = c; answer = setup_answer p (F k) } ∷ h) (sym (e k)) (paired_setup_says (setup_after p (F k)) F e ks rest)
 
-  paired_says : (meaning : R → ℕ) (w : World R) (F : Call R → Move R) → ((k : Call R) → (F k).call ≡ k) → (ks : List (Call R)) (rest : List (Answer R)) →
+  paired_says : (meaning : R → ℕ) (w : World R) (F : Call R → Move R) → ((k : Call R) → (F k).call ≡ k) → (ks : List (Call R)) (rest : List (Result (Told R) Refusal)) →
       paired ks (call_says (history meaning w (map F ks)) ++ rest) ≡ history meaning w (map F ks)
   unfolding history
   paired_says meaning w F e [] rest = refl
@@ -209,7 +209,7 @@ module _ {R : Type 0} where
     other_long b b' e lv lm = (leb-true _ _ (e.values ∙ le-leb _ _ lv), leb-true _ _ (e.marks ∙ le-leb _ _ lm))
 
     -- the law of the answers that were written
-    pub lawful : (f : Tosses) (b b' : Lent R) (ks : List (SetupCall R)) (cs : List (Call R)) (old answers : List (Answer R)) → n * m ≤ length b.values → n * n * m ≤ length b.marks →
+    pub lawful : (f : Tosses) (b b' : Lent R) (ks : List (SetupCall R)) (cs : List (Call R)) (old answers : List (Result (Told R) Refusal)) → n * m ≤ length b.values → n * n * m ≤ length b.marks →
         Ran meaning f table (blanked n m b) ks cs b' old answers → Lawful meaning f n m ks cs sizes b (paired_setup ks answers) (paired cs (drop (length ks) answers))
     lawful f b b' ks cs old answers lv lm r =
         let B = blanked n m b in

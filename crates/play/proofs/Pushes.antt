@@ -1,6 +1,6 @@
 -- One more call: the run, its answers, and the list that they are written to.
-use Rattle.std.proofs.Common.{◌≡◌, ℕ, suc, ◌+◌, ◌*◌, ◌<◌, ◌≤◌, List, [], ◌∷◌, ◌++◌, map, length, get_or, take, drop, set, Some, None, Option, sym, refl, ap, ◌∙◌, ap₂, add-zero, add_assoc, arith}
-use Rattle.std.proofs.lemmas.List.{drop_more, drop-drop, drop_at, take_at, set_at, append_assoc, append-nil, take-append-drop, length-append, length-map, length-take-le, map_more, take_all}
+use Rattle.std.proofs.Common.{◌≡◌, ℕ, suc, ◌+◌, ◌*◌, ◌<◌, ◌≤◌, List, [], ◌∷◌, ◌++◌, map, length, get_or, take, drop, set, Some, None, Option, sym, refl, ap, ◌∙◌, ap₂, arith, Result}
+use Rattle.std.proofs.lemmas.List.{drop_more, drop_all, drop-drop, set_at, append_assoc, append-nil, length-map, length-take-le, map_more, take_all}
 use Rattle.refusal.specs.declared.Refusal.{Refusal}
 use Rattle.board.specs.declared.states.Table.{Table}
 use Rattle.agreement.specs.declared.states.Instance.{Instance}
@@ -10,10 +10,11 @@ use Rattle.law.specs.declared.calls.SetupCall.{SetupCall}
 use Rattle.law.specs.declared.calls.SetupCall.TheVariants.{MarkFaulty, Propose}
 use Rattle.law.specs.declared.calls.Call.{Call}
 use Rattle.law.specs.declared.calls.Call.TheVariants as call
-use Rattle.law.specs.declared.calls.Answer.{Answer}
+use Rattle.law.specs.declared.calls.Told.{Told}
 use Rattle.law.specs.Runs.{Tosses, SetupMove, Prepared, setup_after, setup_answer, setup_run, setup_history, setup_refusal, setup_effect, Move, World, refusal, effect, after, answered_by, run, history}
 use Rattle.board.specs.Setups.{if_accepted}
-use Rattle.play.specs.Played.{made_setup, asked_first, called_setup, first_world, asked_next, Ran}
+use Rattle.play.specs.Played.{made_setup, asked_first, called_setup, first_world, Ran}
+use Rattle.play.specs.Lending.{SameLengths}
 use Rattle.play.specs.Moves.{Lent, fits_call, move_of, moves_of, setup_move_of, setup_moves_of, SetupMade, Made, world_of, surplus, setup_says, call_says}
 
 -- a list whose front is written takes one more
@@ -99,12 +100,6 @@ module _ {R : Type 0} where
   with_values b xs = record { values = xs; scratch = b.scratch; sent = b.sent; marks = b.marks }
 
   -- boards of the same lengths fit alike
-  pub record SameLengths (b b' : Lent R) : Type 0 where
-    pub values : length b.values ≡ length b'.values
-    pub scratch : length b.scratch ≡ length b'.scratch
-    pub sent : length b.sent ≡ length b'.sent
-    pub marks : length b.marks ≡ length b'.marks
-
   pub same_fits : (n n' m m' : ℕ) (b b' : Lent R) → n ≡ n' → m ≡ m' → SameLengths b b' → (k : Call R) → fits_call n m b k ≡ fits_call n' m' b' k
   same_fits n n' m m' b b' en em s (call.SendValue i j c x) = cc
   same_fits n n' m m' b b' en em s (call.SendBit i j c k) = cc
@@ -123,11 +118,11 @@ module _ {R : Type 0} where
       ∙ ap (λ xs. move_of n' m' b' f k ∷ xs) (same_moves n n' m m' b b' en em s f ks)
 
   -- the first k setup calls were made, and their answers are written
-  pub record SetupSoFar (p₀ p : Prepared R) (calls : List (SetupCall R)) (k : ℕ) (old answers : List (Answer R)) : Type 0 where
+  pub record SetupSoFar (p₀ p : Prepared R) (calls : List (SetupCall R)) (k : ℕ) (old answers : List (Result (Told R) Refusal)) : Type 0 where
     pub setup : p ≡ setup_run p₀ (setup_moves_of p₀.table.n p₀.table.m p₀.values (take k calls))
     pub answers_are : answers ≡ setup_says (setup_history p₀ (setup_moves_of p₀.table.n p₀.table.m p₀.values (take k calls))) ++ drop k old
 
-  pub setup_step : (p₀ p q : Prepared R) (calls : List (SetupCall R)) (k : ℕ) (old a a' : List (Answer R)) (x : Answer R) (c : SetupCall R) →
+  pub setup_step : (p₀ p q : Prepared R) (calls : List (SetupCall R)) (k : ℕ) (old a a' : List (Result (Told R) Refusal)) (x : Result (Told R) Refusal) (c : SetupCall R) →
       k < length calls → length calls ≤ length old → length p.values ≡ length p₀.values → c ≡ get_or calls k c →
       SetupMade (setup_move_of p.table.n p.table.m p.values c) p q x → a' ≡ set a k x →
       SetupSoFar p₀ p calls k old a → SetupSoFar p₀ q calls (k + 1) old a'
@@ -149,11 +144,11 @@ module _ {R : Type 0} where
             ∙ sym (setup_says_push p₀ vs (f c)) ∙ ap (λ us. setup_says (setup_history p₀ us)) (sym e));
       }
 
-  pub setup_none : (p : Prepared R) (calls : List (SetupCall R)) (old : List (Answer R)) → SetupSoFar p p calls 0 old old
+  pub setup_none : (p : Prepared R) (calls : List (SetupCall R)) (old : List (Result (Told R) Refusal)) → SetupSoFar p p calls 0 old old
   unfolding setup_run setup_history
   setup_none p calls old = record { setup = refl; answers_are = refl }
 
-  pub setup_end : (p₀ p : Prepared R) (calls : List (SetupCall R)) (k : ℕ) (old a : List (Answer R)) → k ≡ length calls → SetupSoFar p₀ p calls k old a →
+  pub setup_end : (p₀ p : Prepared R) (calls : List (SetupCall R)) (k : ℕ) (old a : List (Result (Told R) Refusal)) → k ≡ length calls → SetupSoFar p₀ p calls k old a →
       (p ≡ setup_run p₀ (setup_moves_of p₀.table.n p₀.table.m p₀.values calls))
       × (a ≡ setup_says (setup_history p₀ (setup_moves_of p₀.table.n p₀.table.m p₀.values calls)) ++ drop (length calls) old)
   setup_end p₀ p calls k old a e inv =
@@ -163,18 +158,18 @@ module _ {R : Type 0} where
         inv.answers_are ∙ ap (λ cs. setup_says (setup_history p₀ (F cs)) ++ drop k old) t ∙ ap (λ j. setup_says (setup_history p₀ (F calls)) ++ drop j old) e,
       )
 
-  -- the first k calls were made, and their answers are written from place `start` on
-  pub record SoFar (meaning : R → ℕ) (f : Tosses) (s₀ s : Instance) (b₀ b : Lent R) (calls : List (Call R)) (start k : ℕ) (old answers : List (Answer R)) : Type 0 where
+  -- the first k calls were made, and their answers are written
+  pub record SoFar (meaning : R → ℕ) (f : Tosses) (s₀ s : Instance) (b₀ b : Lent R) (calls : List (Call R)) (k : ℕ) (old answers : List (Result (Told R) Refusal)) : Type 0 where
     pub world : world_of s b ≡ run meaning (world_of s₀ b₀) (moves_of s₀.table.n s₀.table.m b₀ f (take k calls))
-    pub answers_are : answers ≡ (take start old ++ call_says (history meaning (world_of s₀ b₀) (moves_of s₀.table.n s₀.table.m b₀ f (take k calls)))) ++ drop (start + k) old
+    pub answers_are : answers ≡ call_says (history meaning (world_of s₀ b₀) (moves_of s₀.table.n s₀.table.m b₀ f (take k calls))) ++ drop k old
     pub rest : surplus s₀.table b ≡ surplus s₀.table b₀
 
-  pub call_step : (meaning : R → ℕ) (f : Tosses) (s₀ s s' : Instance) (b₀ b b' : Lent R) (calls : List (Call R)) (start k : ℕ) (old a a' : List (Answer R)) (x : Answer R) (c : Call R) →
-      k < length calls → start + length calls ≤ length old → SameLengths b b₀ → c ≡ get_or calls k c →
-      Made meaning (move_of s.table.n s.table.m b f c) (world_of s b) (world_of s' b') x → surplus s.table b' ≡ surplus s.table b → a' ≡ set a (start + k) x →
-      SoFar meaning f s₀ s b₀ b calls start k old a → SoFar meaning f s₀ s' b₀ b' calls start (k + 1) old a'
+  pub call_step : (meaning : R → ℕ) (f : Tosses) (s₀ s s' : Instance) (b₀ b b' : Lent R) (calls : List (Call R)) (k : ℕ) (old a a' : List (Result (Told R) Refusal)) (x : Result (Told R) Refusal) (c : Call R) →
+      k < length calls → length calls ≤ length old → SameLengths b b₀ → c ≡ get_or calls k c →
+      Made meaning (move_of s.table.n s.table.m b f c) (world_of s b) (world_of s' b') x → surplus s.table b' ≡ surplus s.table b → a' ≡ set a k x →
+      SoFar meaning f s₀ s b₀ b calls k old a → SoFar meaning f s₀ s' b₀ b' calls (k + 1) old a'
   unfolding after answered_by
-  call_step meaning f s₀ s s' b₀ b b' calls start k old a a' x c l long kept is made over w inv =
+  call_step meaning f s₀ s s' b₀ b b' calls k old a a' x c l long kept is made over w inv =
       let F = move_of s₀.table.n s₀.table.m b₀ f in
       let w₀ = world_of s₀ b₀ in
       let vs = map F (take k calls) in
@@ -184,55 +179,45 @@ module _ {R : Type 0} where
       let ev : move_of s.table.n s.table.m b f c ≡ F c = same_move s.table.n s₀.table.n s.table.m s₀.table.m b b₀ en em kept f c in
       let e : map F (take (k + 1) calls) ≡ vs ++ (F c ∷ []) = map_more F calls k c l ∙ ap (λ y. vs ++ (F y ∷ [])) (sym is) in
       let says₀ = call_says (history meaning w₀ vs) in
-      let lt : length (take start old) ≡ start = length-take-le start old (omega arith) in
       let lv : length says₀ ≡ k = length_says meaning w₀ vs ∙ length-map (take k calls) F ∙ length-take-le k calls (omega arith) in
-      let la = length-append (take start old) says₀ in
-      let lf : length (take start old ++ says₀) ≡ start + k = omega arith in
       let cells : s.table.n * s.table.m ≡ s₀.table.n * s₀.table.m = cc in
       record {
         world = made.world ∙ ap (after meaning (world_of s b)) ev ∙ ap (λ u. after meaning u (F c)) inv.world ∙ sym (run_push meaning w₀ vs (F c)) ∙ ap (run meaning w₀) (sym e);
-        answers_are = write_more (take start old ++ says₀) old a a' (start + k) x lf (omega arith) inv.answers_are w
-            ∙ ap (λ j. ((take start old ++ says₀) ++ (x ∷ [])) ++ drop j old) (add_assoc start k 1)
-            ∙ ap (λ ys. ys ++ drop (start + (k + 1)) old)
-            (append_assoc (take start old) says₀ (x ∷ [])
-            ∙ ap (λ ys. take start old ++ ys)
+        answers_are = write_more says₀ old a a' k x lv (omega arith) inv.answers_are w
+            ∙ ap (λ ys. ys ++ drop (k + 1) old)
             (ap (λ y. says₀ ++ (y ∷ [])) (made.answer ∙ ap (λ (v : Move R). answered_by (world_of s b) v.fits v.call) ev ∙ ap (λ u. answered_by u (F c).fits (F c).call) inv.world)
-            ∙ sym (says_push meaning w₀ vs (F c)) ∙ ap (λ us. call_says (history meaning w₀ us)) (sym e)));
+            ∙ sym (says_push meaning w₀ vs (F c)) ∙ ap (λ us. call_says (history meaning w₀ us)) (sym e));
         rest = ap (λ j. drop j b'.scratch) (sym cells) ∙ over ∙ ap (λ j. drop j b.scratch) cells ∙ inv.rest;
       }
 
-  pub call_none : (meaning : R → ℕ) (f : Tosses) (s : Instance) (b : Lent R) (calls : List (Call R)) (start : ℕ) (old : List (Answer R)) → SoFar meaning f s s b b calls start 0 old old
+  pub call_none : (meaning : R → ℕ) (f : Tosses) (s : Instance) (b : Lent R) (calls : List (Call R)) (old : List (Result (Told R) Refusal)) → SoFar meaning f s s b b calls 0 old old
   unfolding run history
-  call_none meaning f s b calls start old = record {
-    world = refl;
-    answers_are = sym (ap (λ ys. ys ++ drop (start + 0) old) (append-nil (take start old)) ∙ ap (λ j. take start old ++ drop j old) (add-zero start) ∙ take-append-drop start old);
-    rest = refl;
-  }
+  call_none meaning f s b calls old = record { world = refl; answers_are = refl; rest = refl }
 
   -- all calls were made
-  pub record AllMade (meaning : R → ℕ) (f : Tosses) (s₀ s : Instance) (b₀ b : Lent R) (calls : List (Call R)) (start : ℕ) (old answers : List (Answer R)) : Type 0 where
+  pub record AllMade (meaning : R → ℕ) (f : Tosses) (s₀ s : Instance) (b₀ b : Lent R) (calls : List (Call R)) (old answers : List (Result (Told R) Refusal)) : Type 0 where
     pub world : world_of s b ≡ run meaning (world_of s₀ b₀) (moves_of s₀.table.n s₀.table.m b₀ f calls)
-    pub answers_are : answers ≡ (take start old ++ call_says (history meaning (world_of s₀ b₀) (moves_of s₀.table.n s₀.table.m b₀ f calls))) ++ drop (start + length calls) old
+    pub answers_are : answers ≡ call_says (history meaning (world_of s₀ b₀) (moves_of s₀.table.n s₀.table.m b₀ f calls)) ++ drop (length calls) old
 
-  pub call_end : (meaning : R → ℕ) (f : Tosses) (s₀ s : Instance) (b₀ b : Lent R) (calls : List (Call R)) (start k : ℕ) (old a : List (Answer R)) → k ≡ length calls →
-      SoFar meaning f s₀ s b₀ b calls start k old a → AllMade meaning f s₀ s b₀ b calls start old a
-  call_end meaning f s₀ s b₀ b calls start k old a e inv =
+  pub call_end : (meaning : R → ℕ) (f : Tosses) (s₀ s : Instance) (b₀ b : Lent R) (calls : List (Call R)) (k : ℕ) (old a : List (Result (Told R) Refusal)) → k ≡ length calls →
+      SoFar meaning f s₀ s b₀ b calls k old a → AllMade meaning f s₀ s b₀ b calls old a
+  call_end meaning f s₀ s b₀ b calls k old a e inv =
       let t : take k calls ≡ calls = take_all k calls (omega arith) in
       let F = moves_of s₀.table.n s₀.table.m b₀ f in
       let w₀ = world_of s₀ b₀ in
       record {
         world = inv.world ∙ ap (λ cs. run meaning w₀ (F cs)) t;
-        answers_are = inv.answers_are ∙ ap (λ cs. (take start old ++ call_says (history meaning w₀ (F cs))) ++ drop (start + k) old) t
-            ∙ ap (λ j. (take start old ++ call_says (history meaning w₀ (F calls))) ++ drop (start + j) old) e;
+        answers_are = inv.answers_are ∙ ap (λ cs. call_says (history meaning w₀ (F cs)) ++ drop k old) t
+            ∙ ap (λ j. call_says (history meaning w₀ (F calls)) ++ drop j old) e;
       }
 
   -- the setup calls, the opening and the calls make up the script
-  pub script_ran : (meaning : R → ℕ) (f : Tosses) (t : Table) (b b' : Lent R) (ks : List (SetupCall R)) (cs : List (Call R)) (old mid answers : List (Answer R)) (q : Prepared R) (s s' : Instance) →
-      q ≡ called_setup t b ks → mid ≡ setup_says (asked_first t b ks) ++ drop (length ks) old → s ≡ opened (record { table = q.table }) → length q.values ≡ length b.values →
+  pub script_ran : (meaning : R → ℕ) (f : Tosses) (t : Table) (b b' : Lent R) (ks : List (SetupCall R)) (cs : List (Call R)) (old early late first next : List (Result (Told R) Refusal)) (q : Prepared R) (s s' : Instance) →
+      q ≡ called_setup t b ks → first ≡ setup_says (asked_first t b ks) ++ drop (length ks) early → length early ≡ length ks → late ≡ drop (length ks) old → s ≡ opened (record { table = q.table }) → length q.values ≡ length b.values →
       world_of s' b' ≡ run meaning (world_of s (with_values b q.values)) (moves_of s.table.n s.table.m (with_values b q.values) f cs) →
-      answers ≡ (take (length ks) mid ++ call_says (history meaning (world_of s (with_values b q.values)) (moves_of s.table.n s.table.m (with_values b q.values) f cs))) ++ drop (length ks + length cs) mid →
-      surplus s.table b' ≡ surplus s.table b → Ran meaning f t b ks cs b' old answers
-  script_ran meaning f t b b' ks cs old mid answers q s s' eq em es lv ew ea er =
+      next ≡ call_says (history meaning (world_of s (with_values b q.values)) (moves_of s.table.n s.table.m (with_values b q.values) f cs)) ++ drop (length cs) late →
+      surplus s.table b' ≡ surplus s.table b → Ran meaning f t b ks cs b' old (first ++ next)
+  script_ran meaning f t b b' ks cs old early late first next q s s' eq ef le el es lv ew ea er =
       let b₁ = with_values b q.values in
       let p = made_setup t b ks in
       let vs = setup_moves_of t.n t.m b.values ks in
@@ -244,14 +229,12 @@ module _ {R : Type 0} where
       let moves = same_moves s.table.n t.n s.table.m t.m b₁ b en em' (record { values = lv; scratch = refl; sent = refl; marks = refl }) f cs in
       let S = setup_says (asked_first t b ks) in
       let k = length ks in
-      let ls : length S ≡ k = length_setup_says p vs ∙ length-map ks (setup_move_of t.n t.m b.values) in
-      let front : take k mid ≡ S = ap (take k) em ∙ take_at S (drop k old) k ls in
-      let back : drop (k + length cs) mid ≡ drop (k + length cs) old =
-      sym (drop-drop (length cs) k mid) ∙ ap (λ xs. drop (length cs) (drop k xs)) em ∙ ap (drop (length cs)) (drop_at S (drop k old) k ls) ∙ drop-drop (length cs) k old in
+      let front : first ≡ S = ef ∙ ap (λ xs. S ++ xs) (drop_all k early (omega arith)) ∙ append-nil S in
+      let back : drop (length cs) late ≡ drop (k + length cs) old = ap (drop (length cs)) el ∙ drop-drop (length cs) k old in
       let calls = ap₂ (λ (u : World R) (us : List (Move R)). call_says (history meaning u us)) w moves in
       let last = ew ∙ ap₂ (run meaning) w moves in
       record {
-        answers_are = ea ∙ ap₂ ◌++◌ (ap₂ ◌++◌ front calls) back ∙ append_assoc S (call_says (asked_next meaning f t b ks cs)) (drop (k + length cs) old);
+        answers_are = ap₂ ◌++◌ front (ea ∙ ap₂ ◌++◌ calls back);
         values_are = ap (λ (u : World R). u.values) last;
         sent_is = ap (λ (u : World R). u.sent) last;
         marks_are = ap (λ (u : World R). u.marks) last;

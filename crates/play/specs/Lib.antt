@@ -1,2 +1,3 @@
+pub mod Lending
 pub mod Moves
 pub mod Played

@@ -1,6 +1,7 @@
 -- The calls of a script as moves of a run.
-use Rattle.std.specs.Prelude.{◌≡◌, ℕ, ◌*◌, Bool, true, ◌&&◌, List, map, drop, Ok, Err, Option, Result}
+use Rattle.std.specs.Prelude.{◌≡◌, ℕ, ◌*◌, Bool, true, ◌&&◌, List, map, drop, Option, Result}
 use Rattle.refusal.specs.declared.Refusal.{Refusal}
+use Rattle.refusal.specs.Refusals.{answered}
 use Rattle.board.specs.declared.states.Table.{Table}
 use Rattle.agreement.specs.declared.states.Instance.{Instance}
 use Rattle.board.specs.Tables.{cells_needed}
@@ -8,9 +9,8 @@ use Rattle.board.specs.Tables.{fits}
 use Rattle.law.specs.declared.calls.SetupCall.{SetupCall}
 use Rattle.law.specs.declared.calls.Call.{Call}
 use Rattle.law.specs.declared.calls.Call.TheVariants as call
-use Rattle.law.specs.declared.calls.Answer.{Answer}
-use Rattle.law.specs.declared.calls.Answer.TheVariants as answer
-use Rattle.law.specs.Runs.{Tosses, SetupMove, SetupAsked, Prepared, setup_after, setup_answer, Move, World, Asked, refusal, says, effect, answer_of}
+use Rattle.law.specs.declared.calls.Told.{Told}
+use Rattle.law.specs.Runs.{Tosses, SetupMove, SetupAsked, Prepared, setup_after, setup_answer, Move, World, Asked, refusal, says, effect}
 use Rattle.board.specs.Setups.{if_accepted}
 
 -- The four boards as they are lent.
@@ -19,11 +19,6 @@ pub record Lent (R : Type 0) : Type 0 where
   pub scratch : List (Option R)
   pub sent : List (Option R)
   pub marks : List ℕ
-
--- what a call answers whose result is r: a refusal, or what f makes of it
-abbrev pub answer_from : {R X : Type 0} → (X → Answer R) → Result X Refusal → Answer R
-answer_from f (Ok x) = f x
-answer_from f (Err e) = answer.Refused e
 
 module _ {R : Type 0} (n m : ℕ) (b : Lent R) where
   -- whether the boards that a call brings are long enough
@@ -51,13 +46,13 @@ abbrev pub setup_moves_of : {R : Type 0} → ℕ → ℕ → List (Option R) →
 setup_moves_of n m values ks = map (setup_move_of n m values) ks
 
 -- one setup call was made: p and q are the setup before and after it, and a is what it answered
-pub record SetupMade {R : Type 0} (v : SetupMove R) (p q : Prepared R) (a : Answer R) : Type 0 where
+pub record SetupMade {R : Type 0} (v : SetupMove R) (p q : Prepared R) (a : Result (Told R) Refusal) : Type 0 where
   pub answer : a ≡ setup_answer p v
   pub setup : q ≡ setup_after p v
 
 -- one call was made: w and w' are the instance with its boards before and after it, and a is what it answered
-pub record Made {R : Type 0} (meaning : R → ℕ) (v : Move R) (w w' : World R) (a : Answer R) : Type 0 where
-  pub answer : a ≡ answer_of (refusal w v.fits v.call) (says w v.call)
+pub record Made {R : Type 0} (meaning : R → ℕ) (v : Move R) (w w' : World R) (a : Result (Told R) Refusal) : Type 0 where
+  pub answer : a ≡ answered (refusal w v.fits v.call) (says w v.call)
   pub world : w' ≡ if_accepted (refusal w v.fits v.call) (effect meaning v.tosses w v.call) w
 
 -- the instance with the boards that a call leaves or takes
@@ -69,8 +64,8 @@ abbrev pub surplus : {R : Type 0} → Table → Lent R → List (Option R)
 surplus t b = drop (cells_needed t) b.scratch
 
 -- the answers of calls
-abbrev pub setup_says : {R : Type 0} → List (SetupAsked R) → List (Answer R)
+abbrev pub setup_says : {R : Type 0} → List (SetupAsked R) → List (Result (Told R) Refusal)
 setup_says hs = map (λ a. a.answer) hs
 
-abbrev pub call_says : {R : Type 0} → List (Asked R) → List (Answer R)
+abbrev pub call_says : {R : Type 0} → List (Asked R) → List (Result (Told R) Refusal)
 call_says hs = map (λ a. a.answer) hs

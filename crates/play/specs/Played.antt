@@ -1,5 +1,5 @@
 -- What playing a script leaves, and the law of the answers that it writes.
-use Rattle.std.specs.Prelude.{◌≡◌, ℕ, ◌+◌, ◌*◌, ◌<◌, Bool, ◌||◌, List, [], ◌∷◌, ◌++◌, length, drop, Some, None, Option, ◌==◌, nat_lt}
+use Rattle.std.specs.Prelude.{◌≡◌, ℕ, ◌+◌, ◌*◌, ◌<◌, Bool, ◌||◌, List, [], ◌∷◌, ◌++◌, length, drop, Some, None, Option, ◌==◌, nat_lt, Result}
 use Rattle.refusal.specs.declared.Refusal.{Refusal}
 use Rattle.refusal.specs.declared.Refusal.TheVariants.{BadSize, Short}
 use Rattle.refusal.specs.Refusals.{refuse}
@@ -9,7 +9,7 @@ use Rattle.agreement.specs.Setups.{made, opened}
 use Rattle.board.specs.Tables.{fits}
 use Rattle.law.specs.declared.calls.SetupCall.{SetupCall}
 use Rattle.law.specs.declared.calls.Call.{Call}
-use Rattle.law.specs.declared.calls.Answer.{Answer}
+use Rattle.law.specs.declared.calls.Told.{Told}
 use Rattle.law.specs.Runs.{Tosses, Prepared, SetupAsked, setup_run, setup_history, World, Asked, run, history}
 use Rattle.law.specs.Law.{Sizes, faulty_count, Kept, TossesAlike, Delayed}
 use Rattle.play.specs.Moves.{Lent, moves_of, setup_moves_of, surplus, setup_says, call_says}
@@ -50,7 +50,7 @@ module _ {R : Type 0} (meaning : R → ℕ) (f : Tosses) (t : Table) (b : Lent R
   last_world = run meaning (first_world t b ks) (moves_of t.n t.m b f cs)
 
   -- What the calls leave on the boards and on the list of answers.
-  pub record Ran (b' : Lent R) (old answers : List (Answer R)) : Type 0 where
+  pub record Ran (b' : Lent R) (old answers : List (Result (Told R) Refusal)) : Type 0 where
     pub answers_are : answers ≡ setup_says (asked_first t b ks) ++ (call_says asked_next ++ drop (length ks + length cs) old)
     pub values_are : b'.values ≡ last_world.values
     pub sent_is : b'.sent ≡ last_world.sent
@@ -58,12 +58,12 @@ module _ {R : Type 0} (meaning : R → ℕ) (f : Tosses) (t : Table) (b : Lent R
     pub rest : surplus t b' ≡ surplus t b
 
 -- calls, each with the answer at its place
-abbrev pub paired_setup : {R : Type 0} → List (SetupCall R) → List (Answer R) → List (SetupAsked R)
+abbrev pub paired_setup : {R : Type 0} → List (SetupCall R) → List (Result (Told R) Refusal) → List (SetupAsked R)
 paired_setup [] answers = []
 paired_setup (k ∷ ks) [] = []
 paired_setup (k ∷ ks) (a ∷ answers) = record { call = k; answer = a } ∷ paired_setup ks answers
 
-abbrev pub paired : {R : Type 0} → List (Call R) → List (Answer R) → List (Asked R)
+abbrev pub paired : {R : Type 0} → List (Call R) → List (Result (Told R) Refusal) → List (Asked R)
 paired [] answers = []
 paired (k ∷ ks) [] = []
 paired (k ∷ ks) (a ∷ answers) = record { call = k; answer = a } ∷ paired ks answers
@@ -92,11 +92,11 @@ module _ {R : Type 0} (meaning : R → ℕ) (f : Tosses) (n m : ℕ) (ks : List 
         Delayed n ss h (asked_next meaning f' (new_table n m sizes) (blanked n m b') ks cs) f f'
 
   -- What an accepted script leaves.
-  pub record Played (sizes : Sizes n m) (b b' : Lent R) (old answers : List (Answer R)) : Type 0 where
+  pub record Played (sizes : Sizes n m) (b b' : Lent R) (old answers : List (Result (Told R) Refusal)) : Type 0 where
     pub ran : Ran meaning f (new_table n m sizes) (blanked n m b) ks cs b' old answers
     pub law : Lawful sizes b (paired_setup ks answers) (paired cs (drop (length ks) answers))
 
   -- what playing a script leaves: a refusal alters nothing
-  abbrev pub Plays : Option Refusal → Lent R → Lent R → List (Answer R) → List (Answer R) → Type 0
+  abbrev pub Plays : Option Refusal → Lent R → Lent R → List (Result (Told R) Refusal) → List (Result (Told R) Refusal) → Type 0
   Plays None b b' old answers = (sizes : Sizes n m) × Played sizes b b' old answers
   Plays (Some e) b b' old answers = (b' ≡ b) × (answers ≡ old)

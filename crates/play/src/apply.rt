@@ -1,57 +1,25 @@
 //! One call of a script, made on a setup or on an instance.
-ghost use Rattle.std.specs.Prelude.{◌≡◌, drop};
-ghost use Rattle.board.specs.Tables.{undecided_count, cells_needed};
+ghost use Rattle.std.specs.Prelude.{◌≡◌};
+ghost use Rattle.board.specs.Tables.{undecided_count};
 ghost use Rattle.agreement.specs.Calls.{undecided_refusal};
-ghost use Rattle.law.specs.Runs.{answer_of, decision_answer};
-ghost use Rattle.law.specs.declared.calls.Answer.TheVariants.{Done, Count};
-ghost use Rattle.law.specs.declared.calls.Call.TheVariants.{Close};
-ghost use Rattle.play.specs.Moves.{answer_from, setup_move_of, SetupMade, move_of, world_of, Made};
+ghost use Rattle.refusal.specs.Refusals.{answered};
+ghost use Rattle.law.specs.declared.calls.Told.TheVariants.{Count};
+ghost use Rattle.play.specs.Lending.{lent, SameBoards, SameLengths};
+ghost use Rattle.play.specs.Moves.{setup_move_of, SetupMade, move_of, world_of, surplus, Made};
 
-use agreement::{Decision, Instance, Setup};
+use super::boards::Boards;
+use agreement::{Instance, Setup};
 use coin::Coin;
-use law::{Answer, Call, SetupCall};
+use law::{Answer, Call, SetupCall, Told};
 use reading::Reading;
-use refusal::Refusal;
-
-// What a call answers that has nothing more to say.
-fn done<R>(res: Result<(), Refusal>) -> Answer<R>
-    ensures { result ≡ answer_from (λ _. Done) res }
-{
-    match res {
-        Ok(()) => Answer::Done,
-        Err(refusal) => Answer::Refused(refusal),
-    }
-}
-
-// What a call answers that asks for a decision.
-fn found<R: Copy>(res: Result<Decision<R>, Refusal>) -> Answer<R>
-    ensures { result ≡ answer_from decision_answer res }
-{
-    match res {
-        Ok(Decision::Undecided) => Answer::Open,
-        Ok(Decision::Decided(cell)) => Answer::Decided(cell),
-        Err(refusal) => Answer::Refused(refusal),
-    }
-}
-
-// What a call answers that counts.
-fn counted<R>(res: Result<usize, Refusal>) -> Answer<R>
-    ensures { result ≡ answer_from Count res }
-{
-    match res {
-        Ok(count) => Answer::Count(count),
-        Err(refusal) => Answer::Refused(refusal),
-    }
-}
 
 // Asks for the undecided items on a list of so many places; no instance has more than 256.
 fn apply_undecided<R>(instance: &Instance, places: usize) -> Answer<R>
-    ensures { result ≡ answer_of (undecided_refusal instance.now.table places) (Count (undecided_count instance.now.table)) }
+    ensures { result ≡ answered (undecided_refusal instance.now.table places) (Count (undecided_count instance.now.table)) }
 {
     let mut list = [0; 256];
     let all: &mut [usize] = &mut list;
-    let count = if places < 256 { places } else { 256 };
-    counted(instance.undecided(&mut all[0..count]))
+    Ok(Told::Count(instance.undecided(&mut all[..places.min(256)])?))
 }
 
 // Makes a call on a setup.
@@ -62,56 +30,57 @@ pub fn apply_setup<R: Reading>(
 ) -> Answer<R>
     ensures { SetupMade (setup_move_of setup.old.table.n setup.old.table.m values.old call.now) (record { table = setup.old.table; values = values.old }) (record { table = setup.new.table; values = values.new }) result }
 {
-    match *call {
-        SetupCall::MarkFaulty { node } => done(setup.mark_faulty(node)),
-        SetupCall::Propose { node, item, cell } => done(setup.propose(values, node, item, cell)),
-    }
+    let made = match *call {
+        SetupCall::MarkFaulty { node } => setup.mark_faulty(node),
+        SetupCall::Propose { node, item, cell } => setup.propose(values, node, item, cell),
+    };
+    made.map(|()| Told::Done)
 }
 
-// Closes the step.
-fn apply_close<R: Reading, C: Coin>(
-    instance: &mut Instance,
-    coin: &C,
-    values: &mut [Option<R>],
-    scratch: &mut [Option<R>],
-    sent: &mut [Option<R>],
-    marks: &mut [u8],
-) -> Answer<R>
-    ensures made { Made R.Reading.meaning (move_of instance.old.table.n instance.old.table.m (record { values = values.old; scratch = scratch.old; sent = sent.old; marks = marks.old }) (C.Coin.tosses coin.now) Close) (world_of instance.old (record { values = values.old; scratch = scratch.old; sent = sent.old; marks = marks.old })) (world_of instance.new (record { values = values.new; scratch = scratch.new; sent = sent.new; marks = marks.new })) result }
-    ensures rest { drop (cells_needed instance.old.table) scratch.new ≡ drop (cells_needed instance.old.table) scratch.old }
-{
-    done(instance.close(coin, values, scratch, sent, marks))
-}
-
-// Makes a call on an instance; a close brings this coin.
-pub fn apply<R: Reading, C: Coin>(
+// Makes a call on an instance with these boards; a close brings this coin.
+pub fn apply<'a, R: Reading, C: Coin>(
     instance: &mut Instance,
     call: &Call<R>,
     coin: &C,
-    values: &mut [Option<R>],
-    scratch: &mut [Option<R>],
-    sent: &mut [Option<R>],
-    marks: &mut [u8],
+    boards: &mut Boards<'a, R>,
 ) -> Answer<R>
-    ensures made { Made R.Reading.meaning (move_of instance.old.table.n instance.old.table.m (record { values = values.old; scratch = scratch.old; sent = sent.old; marks = marks.old }) (C.Coin.tosses coin.now) call.now) (world_of instance.old (record { values = values.old; scratch = scratch.old; sent = sent.old; marks = marks.old })) (world_of instance.new (record { values = values.new; scratch = scratch.new; sent = sent.new; marks = marks.new })) result }
-    ensures rest { drop (cells_needed instance.old.table) scratch.new ≡ drop (cells_needed instance.old.table) scratch.old }
+    ensures made { Made R.Reading.meaning (move_of instance.old.table.n instance.old.table.m (lent boards.old) (C.Coin.tosses coin.now) call.now) (world_of instance.old (lent boards.old)) (world_of instance.new (lent boards.new)) result }
+    ensures rest { surplus instance.old.table (lent boards.new) ≡ surplus instance.old.table (lent boards.old) }
+    ensures same_boards { SameBoards boards.new boards.old }
+    ensures same_lengths { SameLengths (lent boards.new) (lent boards.old) }
 {
+    let values = &mut *boards.values;
+    let scratch = &mut *boards.scratch;
+    let sent = &mut *boards.sent;
+    let marks = &mut *boards.marks;
     match *call {
         Call::SendValue {
             sender,
             receiver,
             item,
             cell,
-        } => { done(instance.send_value(sent, marks, sender, receiver, item, cell)) }
+        } => {
+            instance
+                .send_value(sent, marks, sender, receiver, item, cell)
+                .map(|()| Told::Done)
+        }
         Call::SendBit {
             sender,
             receiver,
             item,
             bit,
-        } => { done(instance.send_bit(marks, sender, receiver, item, bit)) }
-        Call::SendFinal { sender, receiver } => done(instance.send_final(sender, receiver)),
-        Call::Close => apply_close(instance, coin, values, scratch, sent, marks),
-        Call::Decision { node, item } => found(instance.decision(values, node, item)),
+        } => {
+            instance
+                .send_bit(marks, sender, receiver, item, bit)
+                .map(|()| Told::Done)
+        }
+        Call::SendFinal { sender, receiver } => instance
+            .send_final(sender, receiver)
+            .map(|()| Told::Done),
+        Call::Close => instance
+            .close(coin, values, scratch, sent, marks)
+            .map(|()| Told::Done),
+        Call::Decision { node, item } => Ok(Told::Decision(instance.decision(values, node, item)?)),
         Call::Undecided { places } => apply_undecided(instance, places),
     }
 }

@@ -6,3 +6,4 @@ pub mod Lamps
 pub mod OctetLaws
 pub mod LampLaws
 pub mod PeriodLaws
+pub mod Kinds

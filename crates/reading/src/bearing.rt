@@ -8,7 +8,6 @@ ghost use Rattle.reading.specs.OctetLaws.{exactly_some, pair_whole};
 
 use super::Reading;
 use super::place::put;
-use super::width::Octets;
 use refusal::Refusal;
 
 // A direction in hundredths of a degree, 0 to 65,535.
@@ -42,19 +41,15 @@ impl Bearing {
 }
 
 impl Reading for Bearing {
-    type Wide = Octets<2>;
+    const WIDTH: usize = 2;
 
-    const WIDTH: Self::Wide = Octets;
-
-    ghost width = { 2 };
+    ghost WIDTH = { 2 };
 
     ghost meaning = { bearing_meaning };
 
     ghost octets = { bearing_octets };
 
     ghost reads = { bearing_reads };
-
-    ghost wide = { Prim.search rules };
 
     ghost narrow = { Prim.search rules };
 

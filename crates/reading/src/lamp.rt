@@ -7,7 +7,6 @@ ghost use Rattle.std.proofs.Common.{rules};
 use super::Reading;
 use super::period::Period;
 use super::place::put;
-use super::width::Octets;
 use refusal::Refusal;
 
 // No light, a steady light, or one that comes and goes with a period, in use or on standby.
@@ -34,19 +33,15 @@ impl Lamp {
 }
 
 impl Reading for Lamp {
-    type Wide = Octets<3>;
+    const WIDTH: usize = 3;
 
-    const WIDTH: Self::Wide = Octets;
-
-    ghost width = { 3 };
+    ghost WIDTH = { 3 };
 
     ghost meaning = { lamp_meaning };
 
     ghost octets = { lamp_octets };
 
     ghost reads = { lamp_reads };
-
-    ghost wide = { Prim.search rules };
 
     ghost narrow = { Prim.search rules };
 
@@ -79,8 +74,8 @@ impl Reading for Lamp {
         match *tag {
             0 if tenths == 0 => Ok(Lamp::Dark),
             1 if tenths == 0 => Ok(Lamp::Steady),
-            2 if 1 <= tenths && tenths <= 600 => Ok(Lamp::Flashing(Period::within(tenths))),
-            3 if 1 <= tenths && tenths <= 600 => Ok(Lamp::Standby(Period::within(tenths))),
+            2 if (1..=600).contains(&tenths) => Ok(Lamp::Flashing(Period::within(tenths))),
+            3 if (1..=600).contains(&tenths) => Ok(Lamp::Standby(Period::within(tenths))),
             _ => Err(Refusal::StrangeReading),
         }
     }

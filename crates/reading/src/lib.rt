@@ -11,23 +11,20 @@ ghost use Rattle.reading.specs.Trips.{RoundTrips};
 use refusal::Refusal;
 
 pub mod bearing;
+pub mod kind;
 pub mod lamp;
 pub mod period;
 mod place;
-pub mod width;
 
-use width::Width;
+pub use kind::Kind;
 
 // A kind of reading: values that have a meaning and are written as octets.
 pub trait Reading: Copy {
-    // The type that fixes the width.
-    type Wide: Width;
-
-    // How many octets a reading of the kind takes, 1 to 8: `R::WIDTH.octets()`.
-    const WIDTH: Self::Wide;
+    // How many octets a reading of the kind takes, 1 to 8.
+    const WIDTH: usize;
 
     // The same number, for clauses.
-    ghost width: { ℕ };
+    ghost WIDTH: { ℕ };
 
     // Two readings are the same where their meanings are equal.
     ghost meaning: { Self → ℕ };
@@ -44,18 +41,16 @@ pub trait Reading: Copy {
 
     // Writes the reading's octets at the front of a place. One that is too short is refused and left alone.
     fn write(&self, out: &mut [u8]) -> Result<(), Refusal>
-        ensures answer { result ≡ answered (room width out.old) tt }
-        ensures after { out.new ≡ placed width (octets self.now) out.old };
+        ensures answer { result ≡ answered (room WIDTH out.old) tt }
+        ensures after { out.new ≡ placed WIDTH (octets self.now) out.old };
 
     // The reading that these octets are, all of them. Any others are strange.
     fn read(from: &[u8]) -> Result<Self, Refusal>
         ensures { result ≡ ok_or (reads from.now) StrangeReading };
 
-    ghost wide: { Self.Wide.Width.count ≡ width };
+    ghost narrow: { (1 ≤ WIDTH) × (WIDTH ≤ 8) };
 
-    ghost narrow: { (1 ≤ width) × (width ≤ 8) };
-
-    ghost long: { (r : Self) → length (octets r) ≡ width };
+    ghost long: { (r : Self) → length (octets r) ≡ WIDTH };
 
     ghost back: { (r : Self) → reads (octets r) ≡ Some r };
 
@@ -63,8 +58,6 @@ pub trait Reading: Copy {
 }
 
 // What is written reads back unchanged, and octets that are read are those that the reading writes, in every kind.
-pub fn round_trips<R: Reading>() -> u8
-    ensures { RoundTrips R.width R.octets R.reads }
-{
-    0
-}
+pub fn round_trips<R: Reading>()
+    ensures { RoundTrips R.WIDTH R.octets R.reads }
+{}

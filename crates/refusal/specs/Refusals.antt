@@ -1,5 +1,9 @@
 -- The table of refusals: the number and the word of each.
-use Rattle.std.specs.Prelude.{ℕ, Bool, true, false, List, Some, None, Ok, Err, codes, Option, Result}
+use Rattle.std.specs.Prelude.{◌≡◌, ℕ, Bool, true, false, cond, List, [], ◌∷◌, Some, None, Ok, Err, codes, Option, Result, ◌==◌}
+use Rattle.std.specs.Option.{ok_or}
+use Rattle.refusal.specs.declared.Layer.{Layer}
+use Rattle.refusal.specs.declared.Layer.TheVariants as layer
+use Rattle.refusal.specs.declared.NoRefusal.{NoRefusal}
 use Rattle.refusal.specs.declared.Refusal.{Refusal}
 use Rattle.refusal.specs.declared.Refusal.TheVariants.{BadSize, Short, NoNode, NoItem, HonestSender, FaultyNode, WrongPhase, Repeated, Over, Torn, StrangeLetter, StrangeReading, OutOfTurn}
 
@@ -18,6 +22,31 @@ number Torn = 10
 number StrangeLetter = 11
 number StrangeReading = 12
 number OutOfTurn = 13
+
+-- all refusals
+abbrev pub refusals : List Refusal
+refusals =
+    BadSize ∷ Short ∷ NoNode ∷ NoItem ∷ HonestSender ∷ FaultyNode ∷ WrongPhase ∷ Repeated ∷ Over ∷ Torn ∷ StrangeLetter
+    ∷ StrangeReading ∷ OutOfTurn ∷ []
+
+-- the one of some refusals that has the number k, if there is one
+abbrev pub numbered : ℕ → List Refusal → Option Refusal
+numbered k [] = None
+numbered k (e ∷ es) = cond (k == number e) (Some e) (numbered k es)
+
+-- the refusal with the number k, if there is one
+abbrev pub refusal_of : ℕ → Option Refusal
+refusal_of k = numbered k refusals
+
+-- the result is the refusal with the number k, or says that there is none
+abbrev pub Numbered : ℕ → Result Refusal NoRefusal → Type 0
+Numbered k r = r ≡ ok_or (refusal_of k) (record {})
+
+-- the number of a layer
+abbrev pub layer_number : Layer → ℕ
+layer_number layer.Kind = 1
+layer_number layer.Message = 2
+layer_number layer.Line = 3
 
 -- the word of a refusal, as ASCII
 abbrev pub word : Refusal → List ℕ

@@ -10,15 +10,30 @@ mod tally;
 
 use coin::{Coin, Crossed, Seeded, Strip};
 use generate::{Pick, generate};
+use law::Answer;
 use random::Random;
 use reading::bearing::Bearing;
 use reading::lamp::Lamp;
 use show::{print_found, print_refusals, print_summary};
 use stage::{Script, perform};
-use tally::tally_up;
+use tally::{Tally, tally_up};
 
 // How many scripts are generated.
 const GENERATED: u64 = 50;
+
+// Plays a script and prints its line. Gives its answers, and what they come to.
+fn run_line<R: Pick, C: Coin>(
+    rt: &HostRuntime,
+    name: &str,
+    script: &Script<R>,
+    coin: &C,
+) -> anyhow::Result<(Vec<Answer<R>>, Tally<R>)> {
+    let heap = rt.alloc();
+    let answers = perform(heap, script, coin)?;
+    let tally = tally_up(heap, script, &answers)?;
+    print_summary(rt, name, R::kind(), script, &tally)?;
+    Ok((answers, tally))
+}
 
 // Plays a written script of bearings under a strip with one entry, and prints all that it refused and decided.
 fn run_fixed(
@@ -27,31 +42,10 @@ fn run_fixed(
     entry: u16,
     script: &Script<Bearing>,
 ) -> anyhow::Result<()> {
-    let heap = rt.alloc();
     let entries = [entry];
-    let strip = match Strip::new(&entries) {
-        Ok(strip) => strip,
-        Err(refusal) => return Err(anyhow::anyhow!("{refusal}")),
-    };
-    let answers = perform(heap, script, &strip)?;
-    let tally = tally_up(heap, script, &answers)?;
-    print_summary(rt, name, "bearings", script, &tally)?;
+    let (answers, tally) = run_line(rt, name, script, &Strip::new(&entries)?)?;
     print_refusals(rt, script, &answers)?;
     print_found(rt, &tally)?;
-    Ok(())
-}
-
-// Plays a script and prints its line.
-fn run_line<R: Pick, C: Coin>(
-    rt: &HostRuntime,
-    name: &str,
-    script: &Script<R>,
-    coin: &C,
-) -> anyhow::Result<()> {
-    let heap = rt.alloc();
-    let answers = perform(heap, script, coin)?;
-    let tally = tally_up(heap, script, &answers)?;
-    print_summary(rt, name, R::kind(), script, &tally)?;
     Ok(())
 }
 
@@ -63,10 +57,11 @@ fn run_generated<R: Pick>(rt: &HostRuntime, seed: u64) -> anyhow::Result<()> {
     let coin = Seeded::new(random.next());
     let name = format!(in heap; "{seed}")?;
     if seed % 4 == 3 {
-        run_line(rt, &name, &script, &Crossed::new(coin))
+        run_line(rt, &name, &script, &Crossed::new(coin))?;
     } else {
-        run_line(rt, &name, &script, &coin)
+        run_line(rt, &name, &script, &coin)?;
     }
+    Ok(())
 }
 
 fn run(rt: &HostRuntime) -> anyhow::Result<()> {

@@ -1,10 +1,9 @@
 //! What is printed of a script.
 use super::stage::Script;
-use super::tally::{Found, Tally};
+use super::tally::Tally;
 use law::{Answer, Call};
 use reading::Reading;
-use reading::width::Width;
-use std::io;
+use std::{fmt, io};
 
 // Prints the line of a script: its sizes, and what its answers come to.
 pub fn print_summary<R: Reading>(
@@ -33,16 +32,17 @@ pub fn print_refusals<R: Reading>(
     script: &Script<R>,
     answers: &[Answer<R>],
 ) -> io::Result<()> {
+    // The step in force is printed with each refusal on the way, so it is counted in the loop.
     let mut step: usize = 1;
     let rest = answers.iter().skip(script.setup.len());
     for (call, answer) in script.calls.iter().zip(rest) {
-        match (*call, *answer) {
-            (call, Answer::Refused(refusal)) => {
-                let word = call_word(&call);
+        match (call, answer) {
+            (call, Err(refusal)) => {
+                let word = call_word(call);
                 let number = refusal.number();
                 println!(rt; "  step {step}: {word} refused {number}")?;
             }
-            (Call::Close, _) => step = step.saturating_add(1),
+            (Call::Close, Ok(_)) => step = step.saturating_add(1),
             _ => {}
         }
     }
@@ -52,25 +52,12 @@ pub fn print_refusals<R: Reading>(
 // The name of a call.
 fn call_word<R>(call: &Call<R>) -> &'static str {
     match call {
-        Call::SendValue {
-            sender: _,
-            receiver: _,
-            item: _,
-            cell: _,
-        } => "send_value",
-        Call::SendBit {
-            sender: _,
-            receiver: _,
-            item: _,
-            bit: _,
-        } => "send_bit",
-        Call::SendFinal {
-            sender: _,
-            receiver: _,
-        } => "send_final",
+        Call::SendValue { .. } => "send_value",
+        Call::SendBit { .. } => "send_bit",
+        Call::SendFinal { .. } => "send_final",
         Call::Close => "close",
-        Call::Decision { node: _, item: _ } => "decision",
-        Call::Undecided { places: _ } => "undecided",
+        Call::Decision { .. } => "decision",
+        Call::Undecided { .. } => "undecided",
     }
 }
 
@@ -79,24 +66,27 @@ pub fn print_found<R: Reading>(rt: &impl Print, tally: &Tally<R>) -> io::Result<
     for found in &tally.found {
         let node = found.node;
         let item = found.item;
+        let cell = CellText(&found.cell);
         let step = found.step.saturating_sub(1);
-        print!(rt; "  node {node} item {item}: ")?;
-        print_cell(rt, &found.cell)?;
-        println!(rt; " after step {step}")?;
+        println!(rt; "  node {node} item {item}: {cell} after step {step}")?;
     }
     Ok(())
 }
 
-// Prints a cell: none, or its octets in hexadecimal.
-fn print_cell<R: Reading>(rt: &impl Print, cell: &Option<R>) -> io::Result<()> {
-    let Some(reading) = cell else {
-        return print!(rt; "none");
-    };
-    let mut octets = [0; 8];
-    let _ = reading.write(&mut octets);
-    let width = R::WIDTH.octets();
-    for octet in octets.iter().take(width) {
-        print!(rt; "{octet:02X}")?;
+// A cell as text: none, or its octets in hexadecimal.
+#[derive(Drop)]
+struct CellText<'a, R>(&'a Option<R>);
+
+impl<'a, R: Reading> fmt::Display for CellText<'a, R> {
+    fn fmt<W: fmt::Write>(&self, f: &mut fmt::Formatter<W>) -> fmt::Result {
+        let Some(reading) = self.0 else {
+            return f.write_str("none");
+        };
+        let mut octets = [0; 8];
+        let _ = reading.write(&mut octets);
+        for octet in octets.iter().take(R::WIDTH) {
+            write!(f, "{octet:02X}")?;
+        }
+        Ok(())
     }
-    Ok(())
 }

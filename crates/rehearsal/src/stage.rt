@@ -3,8 +3,8 @@ ghost use Rattle.std.specs.Prelude.{◌≡◌, [], ◌∷◌, ◌++◌, IfOk, On
 ghost use Rattle.rehearsal.specs.Scripts.{AnswersLawful};
 
 use coin::Coin;
-use law::{Answer, Call, SetupCall};
-use play::play;
+use law::{Answer, Call, SetupCall, Told};
+use play::{Boards, OwnedBoards, play};
 use reading::Reading;
 use std::alloc::{AllocError, Global};
 
@@ -59,15 +59,6 @@ impl<R: Drop> Script<R> {
     }
 }
 
-// A list of `count` elements, all alike.
-fn filled<T: Copy>(heap: Global, x: T, count: usize) -> Result<Vec<T>, AllocError> {
-    let mut list = Vec::new(heap);
-    for _k in 0..count {
-        list.push(x)?;
-    }
-    Ok(list)
-}
-
 // Plays a script on boards that suffice for 16 nodes and 16 items, and gives all answers, those of the setup first.
 pub fn perform<R: Reading, C: Coin>(
     heap: Global,
@@ -76,26 +67,28 @@ pub fn perform<R: Reading, C: Coin>(
 ) -> anyhow::Result<Vec<Answer<R>>>
     ensures { IfOk result (λ v. AnswersLawful R.Reading.meaning (C.Coin.tosses coin.now) script.now.n script.now.m script.now.setup.items script.now.calls.items v.items) }
 {
-    let mut values = filled(heap, None, 256)?;
-    let mut scratch = filled(heap, None, 256)?;
-    let mut sent = filled(heap, None, 4096)?;
-    let mut marks = filled(heap, 0, 4096)?;
+    let OwnedBoards {
+        mut values,
+        mut scratch,
+        mut sent,
+        mut marks,
+    } = OwnedBoards::new(heap)?;
+    let mut boards = Boards {
+        values: &mut values,
+        scratch: &mut scratch,
+        sent: &mut sent,
+        marks: &mut marks,
+    };
     let count = script.setup.len().saturating_add(script.calls.len());
-    let mut answers = filled(heap, Answer::Open, count)?;
-    let played = play(
+    let mut answers = vec![in heap; Ok(Told::Done); count]?;
+    play(
         script.n,
         script.m,
         &script.setup,
         &script.calls,
         coin,
-        &mut values,
-        &mut scratch,
-        &mut sent,
-        &mut marks,
+        &mut boards,
         &mut answers,
-    );
-    match played {
-        Ok(_) => Ok(answers),
-        Err(refusal) => Err(anyhow::anyhow!("{refusal}")),
-    }
+    )?;
+    Ok(answers)
 }

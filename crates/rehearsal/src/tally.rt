@@ -3,7 +3,8 @@ ghost use Rattle.std.specs.Prelude.{◌≡◌};
 ghost use Rattle.rehearsal.specs.Cells.{same_cell};
 
 use super::stage::Script;
-use law::{Answer, Call, SetupCall};
+use board::Decision;
+use law::{Answer, Call, SetupCall, Told};
 use reading::Reading;
 use std::alloc::{AllocError, Global};
 
@@ -17,6 +18,7 @@ pub struct Found<R> {
 }
 
 // What is counted over the answers.
+// The decisions stand in the order in which they were found, which is printed: a map by node and item would lose it.
 #[derive(Drop)]
 pub struct Tally<R> {
     pub faulty: usize,
@@ -38,21 +40,11 @@ fn same_cell<R: Reading>(a: &Option<R>, b: &Option<R>) -> bool
 }
 
 impl<R: Reading> Tally<R> {
-    // Takes what a setup call answered.
-    fn take_setup(&mut self, call: &SetupCall<R>, answer: &Answer<R>) {
-        match (*call, *answer) {
-            (_, Answer::Refused(_)) => self.refused = self.refused.saturating_add(1),
-            (SetupCall::MarkFaulty { node: _ }, _) => self.faulty = self.faulty.saturating_add(1),
-            _ => {}
-        }
-    }
-
     // Takes what a call answered.
     fn take(&mut self, call: &Call<R>, answer: &Answer<R>) -> Result<(), AllocError> {
         match (*call, *answer) {
-            (_, Answer::Refused(_)) => self.refused = self.refused.saturating_add(1),
-            (Call::Close, _) => self.step = self.step.saturating_add(1),
-            (Call::Decision { node, item }, Answer::Decided(cell)) => {
+            (Call::Close, Ok(_)) => self.step = self.step.saturating_add(1),
+            (Call::Decision { node, item }, Ok(Told::Decision(Decision::Decided(cell)))) => {
                 self.take_decision(node, item, cell)?
             }
             _ => {}
@@ -67,18 +59,14 @@ impl<R: Reading> Tally<R> {
         item: usize,
         cell: Option<R>,
     ) -> Result<(), AllocError> {
-        let mut known = false;
-        for found in &self.found {
-            if found.item == item {
-                if !same_cell(&found.cell, &cell) {
-                    self.agree = false;
-                }
-                if found.node == node {
-                    known = true;
-                }
-            }
+        if self.found.iter().any(|found| found.item == item && !same_cell(&found.cell, &cell)) {
+            self.agree = false;
         }
-        if !known {
+        if !self
+            .found
+            .iter()
+            .any(|found| found.item == item && found.node == node)
+        {
             let step = self.step;
             self.found.push(Found {
                 node,
@@ -92,25 +80,25 @@ impl<R: Reading> Tally<R> {
 
     // How many nodes have decided an item.
     fn deciders(&self, item: usize) -> usize {
-        let mut count: usize = 0;
-        for found in &self.found {
-            if found.item == item {
-                count = count.saturating_add(1);
-            }
-        }
-        count
+        self.found.iter().filter(|found| found.item == item).count()
     }
 
     // How many items of m every honest node of n has decided.
     pub fn everywhere(&self, n: usize, m: usize) -> usize {
-        let mut count: usize = 0;
-        for item in 0..m {
-            if self.deciders(item).saturating_add(self.faulty) == n {
-                count = count.saturating_add(1);
-            }
-        }
-        count
+        (0..m)
+            .filter(|item| self.deciders(*item).saturating_add(self.faulty) == n)
+            .count()
     }
+}
+
+// How many nodes were marked faulty.
+fn marked<R: Reading>(script: &Script<R>, answers: &[Answer<R>]) -> usize {
+    script
+        .setup
+        .iter()
+        .zip(answers)
+        .filter(|(call, answer)| matches!(call, SetupCall::MarkFaulty { .. }) && answer.is_ok())
+        .count()
 }
 
 // The tally of a script's answers.
@@ -120,15 +108,12 @@ pub fn tally_up<R: Reading>(
     answers: &[Answer<R>],
 ) -> Result<Tally<R>, AllocError> {
     let mut tally = Tally {
-        faulty: 0,
-        refused: 0,
+        faulty: marked(script, answers),
+        refused: answers.iter().filter(|answer| answer.is_err()).count(),
         step: 1,
         agree: true,
         found: Vec::new(heap),
     };
-    for (call, answer) in script.setup.iter().zip(answers.iter()) {
-        tally.take_setup(call, answer);
-    }
     let rest = answers.iter().skip(script.setup.len());
     for (call, answer) in script.calls.iter().zip(rest) {
         tally.take(call, answer)?;

@@ -1,9 +1,9 @@
 -- The message that an honest node sends: its length, its items, and the checks before it.
-use Rattle.std.proofs.Common.{◌≡◌, ℕ, zero, suc, ◌+◌, ◌*◌, ◌<◌, ◌≤◌, Bool, true, false, not, ◌&&◌, leb, List, [], ◌∷◌, map, length, get_or, take, drop, Some, None, Ok, Err, Option, Result, sym, refl, ap, ◌∙◌, inl, inr, zero-add, arith}
+use Rattle.std.proofs.Common.{◌≡◌, ℕ, zero, suc, ◌+◌, ◌-◌, ◌*◌, ◌<◌, ◌≤◌, Bool, true, false, not, ◌&&◌, leb, ◌⊎◌, List, [], ◌∷◌, map, length, get_or, take, drop, Some, None, Ok, Err, Option, Result, sym, refl, ap, ap₂, ◌∙◌, inl, inr, zero-add, arith}
 use Rattle.std.specs.List.{range_with_len, flat_map}
 use Rattle.std.proofs.lemmas.List.FromFn.{length-map-range_with_len, fill_by_all}
-use Rattle.std.proofs.lemmas.List.{length-append, length-take-le, length-drop, get_or-take, get_or-drop}
-use Rattle.std.proofs.lemmas.Bool.{le-leb, lt-leb, eq-eqb, ne_eqb, le-ltb, cases_eq}
+use Rattle.std.proofs.lemmas.List.{length-append, length-take-le, length-drop, take_all, get_or-take, get_or-drop}
+use Rattle.std.proofs.lemmas.Bool.{le-leb, lt-leb, leb-true, leb-false, eq-eqb, ne_eqb, le-ltb, cases_eq, and_parts, and_right}
 use Rattle.refusal.specs.declared.Refusal.{Refusal}
 use Rattle.refusal.specs.declared.Refusal.TheVariants.{Short, NoNode, FaultyNode, Over}
 use Rattle.refusal.specs.declared.Fault.{Fault}
@@ -19,7 +19,7 @@ use Rattle.wire.specs.Items.{cell_octets}
 use Rattle.wire.specs.Bits.{packed, octets_for}
 use Rattle.wire.specs.Messages.{body_length, message_octets}
 use Rattle.wire.specs.Writes.{contents_answer, written}
-use Rattle.wire.proofs.CellLaws.{cell_long, rows_less}
+use Rattle.wire.proofs.CellLaws.{cell_long, rows_less, row_fits}
 use Rattle.relay.specs.Own.{own_letter, contents_by, own_contents, own_octets, own_refusal, own_placed}
 
 -- so many elements from a place on, each known by its number
@@ -28,6 +28,13 @@ pub row : {X : Type 0} (f : ℕ → X) (xs : List X) (start m : ℕ) (d : X) →
 row f xs start m d h e =
     let l = length-drop start xs in
     fill_by_all f (take m (drop start xs)) m d (length-take-le m (drop start xs) (omega arith)) (λ k lt. get_or-take m (drop start xs) k d lt ∙ get_or-drop start xs k d ∙ e k)
+
+-- the same where everything from the place on is taken first
+row_part : {X : Type 0} (xs : List X) (start m : ℕ) → start + m ≤ length xs → take m (take (length xs - start) (drop start xs)) ≡ take m (drop start xs)
+row_part xs start m h = ap (take m) (take_all (length xs - start) (drop start xs) (omega (arith, length-drop start xs)))
+
+pub row_long : {X : Type 0} (xs : List X) (start m : ℕ) → start + m ≤ length xs → m ≡ length (take m (take (length xs - start) (drop start xs)))
+row_long xs start m h = sym (ap length (row_part xs start m h) ∙ length-take-le m (drop start xs) (omega (arith, length-drop start xs)))
 
 packed_long : (k : ℕ) (bs : List Bool) → length (packed k bs) ≡ k
 packed_long zero bs = refl
@@ -56,7 +63,7 @@ module _ {R : Type 0} (w : ℕ) (octets : R → List ℕ) (long : (r : R) → le
       octets_long (own_letter (step_number s)) (step_number s) i s.table.m _ _
       (length-map-range_with_len (value_at s.table values i) 0 s.table.m) (length-map-range_with_len (bit_at s.table i) 0 s.table.m)
 
-  pub own_size : (s : Instance) (values : List (Option R)) (i m step k : ℕ) (l : Letter) → m ≡ s.table.m → step ≡ step_number s → l ≡ own_letter step →
+  own_size : (s : Instance) (values : List (Option R)) (i m step k : ℕ) (l : Letter) → m ≡ s.table.m → step ≡ step_number s → l ≡ own_letter step →
       k ≡ 5 + body_length w l m → k ≡ length (own_octets w octets s values i)
   own_size s values i m step k l em es el ek =
       ek ∙ ap (λ x. 5 + body_length w x m) (el ∙ ap own_letter es) ∙ ap (λ x. 5 + body_length w (own_letter (step_number s)) x) em ∙ sym (own_long s values i)
@@ -91,35 +98,30 @@ node_hit true b x e later h = let z : e ≡ NoNode = cc in ap Some (sym z)
 node_hit false true x e later h = let z : e ≡ FaultyNode = cc in ap Some (sym z)
 node_hit false false x e later h = let z : ◌≡◌ {A = ℕ} 0 1 = cc in absurd (omega arith)
 
-pub node_passed : {X : Type 0} (a b : Bool) (x y : X) → Ok y ≡ answered (refuse a NoNode (refuse b FaultyNode None)) x → (a ≡ false) × (b ≡ false) × (y ≡ x)
+node_passed : {X : Type 0} (a b : Bool) (x y : X) → Ok y ≡ answered (refuse a NoNode (refuse b FaultyNode None)) x → (a ≡ false) × (b ≡ false) × (y ≡ x)
 node_passed true b x y h = let z : ◌≡◌ {A = ℕ} 0 1 = cc in absurd (omega arith)
 node_passed false true x y h = let z : ◌≡◌ {A = ℕ} 0 1 = cc in absurd (omega arith)
 node_passed false false x y h = let z : y ≡ x = cc in (refl, refl, z)
 
 module _ {R : Type 0} (w : ℕ) (octets : R → List ℕ) (s : Instance) (values : List (Option R)) (i : ℕ) (place : List ℕ) where
-  pub short_place : cells_needed s.table ≤ length values → length place < length (own_octets w octets s values i) → own_refusal w octets s values i place ≡ Some Short
-  short_place a b = rw (le-leb (cells_needed s.table) (length values) a, lt-leb (length (own_octets w octets s values i)) (length place) b)
+  short_place : (length values < cells_needed s.table) ⊎ (length place < length (own_octets w octets s values i)) → own_refusal w octets s values i place ≡ Some Short
+  short_place (inl a) = rw (lt-leb (cells_needed s.table) (length values) a)
+  short_place (inr b) =
+      rw (and_right (leb (cells_needed s.table) (length values)) (leb (length (own_octets w octets s values i)) (length place)) (lt-leb (length (own_octets w octets s values i)) (length place) b))
 
   module _ (a : cells_needed s.table ≤ length values) (b : length (own_octets w octets s values i) ≤ length place) where
-    pub no_node : {X : Type 0} (x : X) (e : Refusal) → Err e ≡ answered (refuse (leb s.table.n i) NoNode (refuse (faulty_at s.table i) FaultyNode None)) x →
+    no_node : {X : Type 0} (x : X) (e : Refusal) → Err e ≡ answered (refuse (leb s.table.n i) NoNode (refuse (faulty_at s.table i) FaultyNode None)) x →
         own_refusal w octets s values i place ≡ Some e
     no_node x e h =
         rw (le-leb (cells_needed s.table) (length values) a, le-leb (length (own_octets w octets s values i)) (length place) b)
         (node_hit (leb s.table.n i) (faulty_at s.table i) x e (refuse (not (leb 1 (step_number s) && leb (step_number s) 302)) Over None) h)
 
     module _ (c : leb s.table.n i ≡ false) (d : faulty_at s.table i ≡ false) where
-      pub over_low : step_number s < 1 → own_refusal w octets s values i place ≡ Some Over
-      over_low h =
-          rw (le-leb (cells_needed s.table) (length values) a, le-leb (length (own_octets w octets s values i)) (length place) b, c, d, lt-leb 1 (step_number s) h)
+      over : (leb 1 (step_number s) && leb (step_number s) 302) ≡ false → own_refusal w octets s values i place ≡ Some Over
+      over h = rw (le-leb (cells_needed s.table) (length values) a, le-leb (length (own_octets w octets s values i)) (length place) b, c, d, h)
 
-      pub over_high : 302 < step_number s → own_refusal w octets s values i place ≡ Some Over
-      over_high h =
-          let one : 1 ≤ step_number s = omega arith in
-          rw (le-leb (cells_needed s.table) (length values) a, le-leb (length (own_octets w octets s values i)) (length place) b, c, d, le-leb 1 (step_number s) one, lt-leb (step_number s) 302 h)
-
-      pub none_hits : 1 ≤ step_number s → step_number s ≤ 302 → own_refusal w octets s values i place ≡ None
-      none_hits l h =
-          rw (le-leb (cells_needed s.table) (length values) a, le-leb (length (own_octets w octets s values i)) (length place) b, c, d, le-leb 1 (step_number s) l, le-leb (step_number s) 302 h)
+      none_hits : (leb 1 (step_number s) && leb (step_number s) 302) ≡ true → own_refusal w octets s values i place ≡ None
+      none_hits h = rw (le-leb (cells_needed s.table) (length values) a, le-leb (length (own_octets w octets s values i)) (length place) b, c, d, h)
 
 -- what is written of a node's part of the values board and of its bits is its own message
 module _ {R : Type 0} (s : Instance) (values : List (Option R)) (i : ℕ) where
@@ -141,13 +143,15 @@ module _ {R : Type 0} (s : Instance) (values : List (Option R)) (i : ℕ) where
     pub answer : r ≡ Ok (length (own_octets w octets s values i))
     pub after : place' ≡ own_placed w octets s values i place
 
-  pub own_written : (w : ℕ) (octets : R → List ℕ) → ((r : R) → length (octets r) ≡ w) → (n m step : ℕ) (l : Letter) (cells : List (Option R)) (bits all : List Bool) (place place' : List ℕ) (r : Result ℕ Fault) →
+  own_written : (w : ℕ) (octets : R → List ℕ) → ((r : R) → length (octets r) ≡ w) → (n m step : ℕ) (l : Letter) (cells : List (Option R)) (bits all : List Bool) (place place' : List ℕ) (r : Result ℕ Fault) →
       n ≡ s.table.n → m ≡ s.table.m → step ≡ step_number s → l ≡ own_letter step → cells ≡ take m (drop (i * m) values) → bits ≡ take m (drop 0 all) → all ≡ (node_at s.table i).bits →
-      i * m + m ≤ length values → m ≤ length all → 5 + body_length w l m ≤ length place → i < n → 1 ≤ step → step ≤ 302 →
+      i * m + m ≤ length values → m ≤ length all → 5 + body_length w l m ≤ length place → i < n → (leb 1 step && leb step 302) ≡ true →
       r ≡ contents_answer w n m (contents_by l step i cells bits) (length place) → place' ≡ written r (message_octets w octets (contents_by l step i cells bits)) place →
       OwnWritten w octets place place' r
-  own_written w octets long n m step l cells bits all place place' r en em es el ec eb ea hc hb room h low high er ep =
+  own_written w octets long n m step l cells bits all place place' r en em es el ec eb ea hc hb room h on er ep =
       let sizes = s.table.sizes in
+      let low : 1 ≤ step = leb-true 1 step (and_parts (leb 1 step) (leb step 302) on).0 in
+      let high : step ≤ 302 = leb-true step 302 (and_parts (leb 1 step) (leb step 302) on).1 in
       let lc : length cells ≡ m = ap length ec ∙ length-take-le m (drop (i * m) values) (simp length-drop (omega arith)) in
       let lb : length bits ≡ m = ap length eb ∙ length-take-le m (drop 0 all) hb in
       let turn : takes_step l step ≡ true = ap (λ x. takes_step x step) el ∙ own_turn step low high in
@@ -163,3 +167,55 @@ module _ {R : Type 0} (s : Instance) (values : List (Option R)) (i : ℕ) where
         answer = answer;
         after = ep ∙ ap (λ c. written r (message_octets w octets c) place) same ∙ ap (λ x. written x (own_octets w octets s values i) place) answer;
       }
+
+-- what is known of the message once a run's sizes, its step, and the message's letter and length are
+module _ {R : Type 0} (w : ℕ) (octets : R → List ℕ) (long : (r : R) → length (octets r) ≡ w) (s : Instance) (values : List (Option R)) (i : ℕ) (place : List ℕ) (n m step k : ℕ) (l : Letter)
+    (en : n ≡ s.table.n) (em : m ≡ s.table.m) (es : step ≡ step_number s) (el : l ≡ own_letter step) (ek : k ≡ 5 + body_length w l m) where
+  needed : n * m ≡ cells_needed s.table
+  needed = ap₂ ◌*◌ en em
+
+  sized : k ≡ length (own_octets w octets s values i)
+  sized = own_size w octets long s values i m step k l em es el ek
+
+  -- a board or a place is short
+  pub refused_short : (length values < n * m) ⊎ (length place < k) → own_refusal w octets s values i place ≡ Some Short
+  refused_short (inl a) = short_place w octets s values i place (inl (omega (arith, needed)))
+  refused_short (inr b) = short_place w octets s values i place (inr (omega (arith, sized)))
+
+  module _ (board : n * m ≤ length values) (room : k ≤ length place) where
+    board_fits : cells_needed s.table ≤ length values
+    board_fits = omega (arith, needed)
+
+    place_fits : length (own_octets w octets s values i) ≤ length place
+    place_fits = omega (arith, sized)
+
+    -- the node sends nothing
+    pub refused_node : (e : Refusal) → Err e ≡ answered (refuse (leb s.table.n i) NoNode (refuse (faulty_at s.table i) FaultyNode None)) (node_at s.table i).bits →
+        own_refusal w octets s values i place ≡ Some e
+    refused_node e h = no_node w octets s values i place board_fits place_fits (node_at s.table i).bits e h
+
+    module _ (bits : List Bool) (sends : Ok bits ≡ answered (refuse (leb s.table.n i) NoNode (refuse (faulty_at s.table i) FaultyNode None)) (node_at s.table i).bits) where
+      passes : (leb s.table.n i ≡ false) × (faulty_at s.table i ≡ false) × (bits ≡ (node_at s.table i).bits)
+      passes = node_passed (leb s.table.n i) (faulty_at s.table i) (node_at s.table i).bits bits sends
+
+      within : i < n
+      within = omega (arith, leb-false s.table.n i passes.0, en)
+
+      -- its cells stand on the values board
+      pub row_within : i * m + m ≤ length values
+      row_within = omega (arith, row_fits i n m (n * m) within refl)
+
+      -- nothing is sent any more
+      pub refused_over : (leb 1 step && leb step 302) ≡ false → own_refusal w octets s values i place ≡ Some Over
+      refused_over h = over w octets s values i place board_fits place_fits passes.0 passes.1 (ap (λ x. leb 1 x && leb x 302) (sym es) ∙ h)
+
+      -- what the writer is given is written
+      pub whole_written : m ≤ length bits → (leb 1 step && leb step 302) ≡ true → (place' : List ℕ) (r : Result ℕ Fault) →
+          r ≡ contents_answer w n m (contents_by l step i (take m (take (length values - i * m) (drop (i * m) values))) (take m bits)) (length place) →
+          place' ≡ written r (message_octets w octets (contents_by l step i (take m (take (length values - i * m) (drop (i * m) values))) (take m bits))) place →
+          (own_refusal w octets s values i place ≡ None) × OwnWritten s values i w octets place place' r
+      whole_written few on place' r er ep = (
+        none_hits w octets s values i place board_fits place_fits passes.0 passes.1 (ap (λ x. leb 1 x && leb x 302) (sym es) ∙ on),
+        own_written s values i w octets long n m step l (take m (take (length values - i * m) (drop (i * m) values))) (take m bits) bits place place' r
+            en em es el (row_part values (i * m) m row_within) refl passes.2 row_within few (omega (arith, ek)) within on er ep,
+      )

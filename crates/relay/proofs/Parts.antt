@@ -1,10 +1,11 @@
 -- The calls of a message, one by one.
-use Rattle.std.proofs.Common.{◌≡◌, ℕ, zero, suc, ◌+◌, ◌-◌, ◌<◌, ◌≤◌, Bool, true, false, List, [], ◌∷◌, ◌++◌, map, length, get_or, Some, None, Ok, Err, Option, Result, sym, refl, ap, ◌∙◌, inl, inr, add-zero, add-one, arith}
-use Rattle.std.specs.List.{range_with_len}
+use Rattle.std.proofs.Common.{◌≡◌, ℕ, zero, suc, ◌+◌, ◌-◌, ◌<◌, ◌≤◌, Bool, false, List, [], ◌∷◌, ◌++◌, map, length, get_or, Some, None, Ok, Err, Option, Result, sym, refl, ap, ◌∙◌, inl, inr, add-zero, zero-add, arith}
+use Rattle.std.specs.List.{range_with_len, list_any}
 use Rattle.std.specs.Result.{result_map_both, result_unwrap_or}
-use Rattle.std.proofs.lemmas.List.FromFn.{length-map-range_with_len, get_or-map-range_with_len}
+use Rattle.std.proofs.lemmas.List.FromFn.{length-range_with_len, get_or-range_with_len, length-map-range_with_len, get_or-map-range_with_len}
 use Rattle.std.proofs.lemmas.List.{length-append, get_or_past, get_or-append_right, get_or_append_left}
-use Rattle.std.proofs.lemmas.Bool.{cases_eq, or_parts, or_from, or_left, or_right}
+use Rattle.std.proofs.lemmas.List.Recursion.{or_at}
+use Rattle.std.proofs.lemmas.Bool.{cases_Bool, both_ways}
 use Rattle.refusal.specs.declared.Refusal.{Refusal}
 use Rattle.refusal.specs.declared.Refusal.TheVariants.{StrangeReading}
 use Rattle.refusal.specs.Refusals.{unless}
@@ -19,37 +20,23 @@ use Rattle.wire.specs.Bits.{bit_number, bit_at}
 use Rattle.wire.specs.Items.{cell_at}
 use Rattle.wire.specs.Messages.{Parts, said, cells_in, bits_in}
 use Rattle.wire.specs.Looks.{cell_answer, bit_answer}
-use Rattle.relay.specs.Deliveries.{message_calls, last_call, count_calls, some_item}
+use Rattle.relay.specs.Deliveries.{message_calls, last_call, count_calls}
 
 -- an answer that is no refusal
 unless_ok : {X : Type 0} (o : Option Refusal) (r : Result X Refusal) (x : X) → Ok x ≡ unless o r → r ≡ Ok x
 unless_ok None r x e = sym e
 unless_ok (Some u) r x e = let z : ◌≡◌ {A = ℕ} 0 1 = cc in absurd (omega arith)
 
-mapped_ok : {X : Type 0} (r : Result X ℕ) (x : X) → result_map_both (λ c. c) (λ _. StrangeReading) r ≡ Ok x → r ≡ Ok x
+mapped_ok : {X E : Type 0} (r : Result X E) (x : X) → result_map_both (λ c. c) (λ _. StrangeReading) r ≡ Ok x → r ≡ Ok x
 mapped_ok (Ok y) x e = let z : y ≡ x = cc in ap Ok z
 mapped_ok (Err u) x e = let z : ◌≡◌ {A = ℕ} 0 1 = cc in absurd (omega arith)
 
--- no item of those that were looked at passes
-pub none_of_all : (f : ℕ → Bool) (k c : ℕ) → some_item f k ≡ false → c < k → f c ≡ false
-none_of_all f zero c e h = absurd (omega arith)
-none_of_all f (suc k) c e h =
-    let q = or_parts (some_item f k) (f k) e in
-    elim (cases_eq c k) [
-      | inl same ↦ ap f same ∙ q.1
-      | inr other ↦ none_of_all f k c q.0 (omega arith)
-    ]
-
--- one more item is looked at
-pub none_more : (f : ℕ → Bool) (k : ℕ) → some_item f k ≡ false → f k ≡ false → some_item f (k + 1) ≡ false
-none_more f k e h = ap (some_item f) (add-one k) ∙ or_from (some_item f k) (f k) e h
-
--- one item of all passes
-pub some_of_all : (f : ℕ → Bool) (k c : ℕ) → c < k → f c ≡ true → some_item f k ≡ true
-some_of_all f zero c h e = absurd (omega arith)
-some_of_all f (suc k) c h e = elim (cases_eq c k) [
-  | inl same ↦ or_right (some_item f k) (f k) (ap f (sym same) ∙ e)
-  | inr other ↦ or_left (some_item f k) (f k) (some_of_all f k c (omega arith) e)
+-- where no item passes, none of them does
+pub none_of_all : (f : ℕ → Bool) (k c : ℕ) → list_any f (range_with_len 0 k) ≡ false → c < k → f c ≡ false
+none_of_all f k c e h = elim (cases_Bool (f c)) [
+  | inl hit ↦ absurd (both_ways (list_any f (range_with_len 0 k)) e
+      (or_at (list_any f) f refl (λ _ _. refl) (range_with_len 0 k) c 0 (omega (arith, length-range_with_len 0 k)) (ap f (get_or-range_with_len 0 k c 0 h ∙ zero-add c) ∙ hit)))
+  | inr miss ↦ miss
 ]
 
 -- the last of a list, at its place and past it

@@ -1,4 +1,5 @@
 //! The lines that answer: a refusal, a look at a decision, a node's row of decisions.
+//! A text grows part by part: `write!` would fail with an `io::Error`, and not with the allocator's error.
 ghost use Rattle.std.specs.Prelude.{◌∷◌, map};
 ghost use Rattle.spelling.specs.Answers.{spaced, refused_text, result_text, look_text, row_text};
 ghost use Rattle.spelling.specs.Numbers.{digits};

@@ -27,7 +27,7 @@ impl Spelled for Bearing {
     ghost no_dash = { λ b. digits_dash b.hundredths };
 
     fn parse(field: &[u8]) -> Option<Bearing> {
-        Some(Bearing::new(parse_word(field)?))
+        parse_word(field).map(Bearing::new)
     }
 
     fn spell(&self, text: &mut Vec<u8>) -> Result<(), AllocError> {

@@ -14,10 +14,7 @@ pub fn parse_cell<R: Spelled>(field: &[u8]) -> Option<Option<R>>
     if dash(field) {
         return Some(None);
     }
-    match R::parse(field) {
-        Some(reading) => Some(Some(reading)),
-        None => None,
-    }
+    R::parse(field).map(Some)
 }
 
 // Adds a cell's field to a text. What is added stands for the same cell.

@@ -17,17 +17,14 @@ use std::alloc::AllocError;
 fn parse_period(field: &[u8]) -> Option<Period>
     ensures { result ≡ period_in field.now }
 {
-    match Period::new(parse_word(field)?) {
-        Ok(period) => Some(period),
-        Err(_) => None,
-    }
+    Period::new(parse_word(field)?).ok()
 }
 
 // Adds a letter and a period's tenths to a text.
 fn write_period(text: &mut Vec<u8>, letter: u8, period: &Period) -> Result<(), AllocError>
     ensures { Wrote result text.old.items text.new.items (letter ∷ digits period.now.tenths) }
 {
-    text.extend_from_slice(&[letter])?;
+    text.push(letter)?;
     write_number(text, period.tenths() as u64)
 }
 
@@ -46,14 +43,11 @@ impl Spelled for Lamp {
     ghost no_dash = { Prim.search rules };
 
     fn parse(field: &[u8]) -> Option<Lamp> {
-        let [letter, rest @ ..] = field else {
-            return None;
-        };
-        match *letter {
-            b'D' if rest.is_empty() => Some(Lamp::Dark),
-            b'S' if rest.is_empty() => Some(Lamp::Steady),
-            b'F' => Some(Lamp::Flashing(parse_period(rest)?)),
-            b'T' => Some(Lamp::Standby(parse_period(rest)?)),
+        match field {
+            b"D" => Some(Lamp::Dark),
+            b"S" => Some(Lamp::Steady),
+            [b'F', rest @ ..] => parse_period(rest).map(Lamp::Flashing),
+            [b'T', rest @ ..] => parse_period(rest).map(Lamp::Standby),
             _ => None,
         }
     }

@@ -10,6 +10,7 @@ use std::alloc::AllocError;
 pub fn write_number(text: &mut Vec<u8>, number: u64) -> Result<(), AllocError>
     ensures { Wrote result text.old.items text.new.items (digits number) }
 {
+    // The last digit is written first: a call for each digit, front to back, takes half as many instructions again.
     let mut octets = [0; 20];
     let mut place = 19;
     let mut rest = number;

@@ -8,10 +8,5 @@ use lines::decimal;
 pub(crate) fn parse_word(field: &[u8]) -> Option<u16>
     ensures { result ≡ word_in field.now }
 {
-    let number = decimal(field)?;
-    if number <= 65535 {
-        Some(number as u16)
-    } else {
-        None
-    }
+    u16::try_from(decimal(field)?).ok()
 }

@@ -1,15 +1,12 @@
 -- Lines that come in octet by octet.
-use Rattle.std.proofs.Common.{◌≡◌, ℕ, ◌+◌, ◌-◌, ◌<◌, ◌≤◌, true, false, ◌||◌, eqb, ltb, List, [], ◌∷◌, ◌++◌, length, get_or, take, drop, Some, None, Err, Option, Result, sym, refl, ap, ◌∙◌, subst, add-one, arith, drop-cons}
-use Rattle.std.proofs.lemmas.List.{append_assoc, append-nil, drop_all, drop-drop, take-append-drop}
+use Rattle.std.proofs.Common.{◌≡◌, ℕ, ◌+◌, ◌<◌, ◌≤◌, true, ◌||◌, eqb, ltb, List, [], ◌∷◌, ◌++◌, length, get_or, drop, Some, None, Err, Option, sym, refl, ap, ◌∙◌, subst, add-one, arith, drop-cons}
+use Rattle.std.proofs.lemmas.List.{append_assoc, append-nil, drop_all}
 use Rattle.refusal.specs.declared.Refusal.{Refusal}
 use Rattle.refusal.specs.declared.Refusal.TheVariants.{Torn}
-use Rattle.lines.specs.Gathered.{empty, line_answer}
-use Rattle.spelling.specs.Answers.{refused_text}
-use Rattle.spelling.specs.Texts.{Wrote}
+use Rattle.lines.specs.Gathered.{line_answer}
 use Rattle.transcript.specs.Answers.{Answer, refuses, served}
-use Rattle.transcript.specs.Runs.{Standing, fresh, bearings, lamps, first_run, run_served, Answers}
-use Rattle.transcript.specs.Harbours.{View, line_served, next, ended, took, followed, fed}
-use Rattle.transcript.proofs.RunLaws.{answers_same, answered}
+use Rattle.transcript.specs.Runs.{Standing, fresh, bearings, lamps, first_run, run_served}
+use Rattle.transcript.specs.Harbours.{View, line_served, took, followed, fed}
 
 -- a line of no octet, or of more than 60, is torn for every run
 pub torn_line : (s : Standing) (n : ℕ) (octets : List ℕ) → (eqb (length octets) 0 || ltb 60 (length octets)) ≡ true → run_served s n octets ≡ refuses s n Torn
@@ -19,22 +16,10 @@ torn_line (bearings h) n octets e = rw e
 torn_line (lamps h) n octets e = rw e
 
 -- a line that is not taken is refused
-not_taken : (s : Standing) (n : ℕ) (l : Option (List ℕ)) (e : Refusal) → Err e ≡ line_answer l → refuses s n e ≡ line_served s n l
+pub not_taken : (s : Standing) (n : ℕ) (l : Option (List ℕ)) (e : Refusal) → Err e ≡ line_answer l → refuses s n e ≡ line_served s n l
 not_taken s n None e h = let t : e ≡ Torn = cc in ap (refuses s n) t
 not_taken s n (Some []) e h = let t : e ≡ Torn = cc in ap (refuses s n) t ∙ sym (torn_line s n [] refl)
 not_taken s n (Some (b ∷ bs)) e h = absurd (let z : ◌≡◌ {A = ℕ} 0 1 = cc in omega arith)
-
-pub by_torn : {X E : Type 0} (r : Result X E) (old new : List ℕ) (s : Standing) (n : ℕ) (l : Option (List ℕ)) (e : Refusal) → Err e ≡ line_answer l → Wrote r old new (refused_text n e)
-    → Answers r old new s (line_served s n l)
-by_torn r old new s n l e h w = answers_same r old new s (refuses s n e) (line_served s n l) (not_taken s n l e h) (answered (λ x. x) r old new s (refuses s n e) w refl)
-
--- the end of a line
-pub line_ended : (v : View) (old new : List ℕ) (s : Standing) (l : Option (List ℕ)) → (new ≡ old ++ (line_served v.run v.number v.line).text) × (s ≡ (line_served v.run v.number v.line).after) → l ≡ empty
-    → (new ≡ old ++ (ended v).text) × (◌≡◌ {A = View} (record { number = next v.number; line = l; begun = false; run = s }) (ended v).after)
-unfolding ended
-line_ended v old new s l h e =
-    let put : Option (List ℕ) → Standing → View = λ x y. record { number = next v.number; line = x; begun = false; run = y } in
-    (h.0, ap (λ x. put x s) e ∙ ap (λ y. put empty y) h.1)
 
 -- octets that come in two parts
 fed_append : (v : View) (xs bs : List ℕ) → fed v (xs ++ bs) ≡ followed (fed v xs) (λ w. fed w bs)
@@ -76,12 +61,8 @@ module _ (whole : List ℕ) (last : View) where
         after = ap (λ x. (fed x bs).after) a ∙ sym (ap (λ (x : Answer View). x.after) both) ∙ h.after;
       }
 
-  pub feeds_part : (old new : List ℕ) (v w : View) (bs part : List ℕ) (i end : ℕ) → i ≤ end → part ≡ take (end - i) (drop i bs) → new ≡ old ++ (fed v part).text → w ≡ (fed v part).after
-      → Feeds whole last old v (drop i bs) → Feeds whole last new w (drop end bs)
-  feeds_part old new v w bs part i end h e n a f =
-      let there : drop (end - i) (drop i bs) ≡ drop end bs = drop-drop (end - i) i bs ∙ ap (λ k. drop k bs) (omega arith) in
-      let parts : drop i bs ≡ part ++ drop end bs = sym (take-append-drop (end - i) (drop i bs)) ∙ ap (λ xs. take (end - i) (drop i bs) ++ xs) there ∙ ap (λ xs. xs ++ drop end bs) (sym e) in
-      one_part old new v w part (drop end bs) n a (subst (λ xs. Feeds whole last old v xs) parts f)
+  pub feeds_part : (old new : List ℕ) (v w : View) (all xs bs : List ℕ) → all ≡ xs ++ bs → new ≡ old ++ (fed v xs).text → w ≡ (fed v xs).after → Feeds whole last old v all → Feeds whole last new w bs
+  feeds_part old new v w all xs bs parts e a f = one_part old new v w xs bs e a (subst (λ ys. Feeds whole last old v ys) parts f)
 
   -- no more octets
   pub feeds_all : (new : List ℕ) (w : View) (bs : List ℕ) (i : ℕ) → length bs ≤ i → Feeds whole last new w (drop i bs) → (new ≡ whole) × (w ≡ last)

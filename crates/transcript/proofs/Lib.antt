@@ -1,5 +1,3 @@
-mod RowLaws
-mod AnswerLaws
 mod RunLaws
 mod HarbourLaws
 mod LineLaws

@@ -4,12 +4,13 @@ use Rattle.std.proofs.lemmas.List.{append_assoc, append-nil}
 use Rattle.std.proofs.lemmas.Bool.{cases_Bool, leb-false, lt-ltb, or_right}
 use Rattle.lines.specs.Fields.{fields, in_front}
 use Rattle.lines.specs.Gathered.{gathered}
+use Rattle.lines.specs.Coming.{next}
 use Rattle.lines.proofs.Gathering.{gathered_push}
 use Rattle.lines.proofs.Parting.{some_field, all_in_front, front_push, front_none}
 use Rattle.spelling.specs.Texts.{Wrote}
 use Rattle.transcript.specs.Answers.{Answer}
 use Rattle.transcript.specs.Runs.{Standing, fresh, seen_as, run_served, Answers}
-use Rattle.transcript.specs.Harbours.{View, before, line_served, next, ended, took, gathers, fed, finished}
+use Rattle.transcript.specs.Harbours.{View, before, line_served, ended, took, gathers, fed, finished}
 use Rattle.transcript.specs.Transcripts.{counted, lines_in, answers_from, answers_to}
 use Rattle.transcript.proofs.HarbourLaws.{torn_line}
 

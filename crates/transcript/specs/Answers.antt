@@ -6,8 +6,9 @@ use Rattle.spelling.specs.Answers.{refused_text, look_text}
 use Rattle.console.specs.declared.types.Command.{Command}
 use Rattle.console.specs.Grammar.{parsed}
 use Rattle.desk.specs.declared.stage.Reply.{Reply}
-use Rattle.desk.specs.declared.stage.Reply.TheVariants.{Refused, Done, Decision, Rows}
-use Rattle.desk.specs.Desks.{Held, Served, serve, turn_of}
+use Rattle.desk.specs.declared.stage.Reply.TheVariants.{Done, Decision, Rows}
+use Rattle.desk.specs.Views.{Held}
+use Rattle.desk.specs.Desks.{Served, serve, turn_of}
 use Rattle.transcript.specs.Rows.{rows_text}
 
 -- What an input leaves: the text that answers it, and the state after it.
@@ -21,11 +22,11 @@ refuses s line e = record { text = refused_text line e; after = s }
 
 module _ {R : Type 0} (spelled : R → List ℕ) where
   -- what is written of a desk's reply to a line
-  abbrev pub reply_text : ℕ → Held R → Reply R → List ℕ
-  reply_text line h (Refused e) = refused_text line e
-  reply_text line h Done = []
-  reply_text line h (Decision node item d) = look_text spelled line node item d
-  reply_text line h Rows = rows_text spelled h
+  abbrev pub reply_text : ℕ → Held R → Result (Reply R) Refusal → List ℕ
+  reply_text line h (Ok Done) = []
+  reply_text line h (Ok (Decision node item d)) = look_text spelled line node item d
+  reply_text line h (Ok Rows) = rows_text spelled h
+  reply_text line h (Err e) = refused_text line e
 
   -- what is written of a command that was run, and the desk that it leaves
   abbrev pub told : ℕ → Served R → Answer (Held R)

@@ -1,10 +1,10 @@
 -- A harbour: what the octets that come in are answered by, and what they leave.
-use Rattle.std.specs.Prelude.{ℕ, ◌+◌, ◌%◌, ◌^◌, Bool, true, false, cond, List, [], ◌∷◌, ◌++◌, Some, None, Option, ◌==◌}
+use Rattle.std.specs.Prelude.{ℕ, Bool, true, false, cond, List, [], ◌∷◌, ◌++◌, Some, None, Option, ◌==◌}
 use Rattle.refusal.specs.declared.Refusal.TheVariants.{Torn}
-use Rattle.lines.specs.Gathered.{held, empty, pushed}
-use Rattle.transcript.specs.declared.types.Harbour.{Harbour}
+use Rattle.lines.specs.Gathered.{empty, pushed}
+use Rattle.lines.specs.Coming.{Coming, next}
 use Rattle.transcript.specs.Answers.{Answer, refuses}
-use Rattle.transcript.specs.Runs.{Standing, standing, seen_as, run_served}
+use Rattle.transcript.specs.Runs.{Standing, seen_as, run_served}
 
 -- A harbour between two octets: the number of the line that is coming in, what has come of it (none: too much), whether anything has, and the run.
 pub record View : Type 0 where
@@ -13,8 +13,9 @@ pub record View : Type 0 where
   pub begun : Bool
   pub run : Standing
 
-abbrev pub view : Harbour → View
-view h = record { number = h.number; line = held h.line; begun = h.begun; run = standing h.run }
+-- a harbour by the line that is coming in, and its run
+abbrev pub seen : Coming → Standing → View
+seen c s = record { number = c.number; line = c.octets; begun = c.begun; run = s }
 
 -- the harbour before a line of which nothing has come
 abbrev pub before : ℕ → Standing → View
@@ -25,11 +26,7 @@ abbrev pub line_served : Standing → ℕ → Option (List ℕ) → Answer Stand
 line_served s n None = refuses s n Torn
 line_served s n (Some octets) = run_served s n octets
 
--- the number of the next line, which has 64 bits
-abbrev pub next : ℕ → ℕ
-next n = (n + 1) % 2 ^ 64
-
--- the end of a line
+-- the end of a line; the number of the next has 64 bits
 unfoldable pub ended : View → Answer View
 ended v = seen_as (before (next v.number)) (line_served v.run v.number v.line)
 

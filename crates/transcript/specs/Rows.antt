@@ -2,7 +2,8 @@
 use Rattle.std.specs.Prelude.{ℕ, zero, suc, List, [], ◌∷◌, ◌++◌}
 use Rattle.board.specs.declared.states.Decision.{Decision}
 use Rattle.spelling.specs.Answers.{row_text}
-use Rattle.desk.specs.Desks.{Held, row_of}
+use Rattle.desk.specs.Views.{Held}
+use Rattle.desk.specs.Desks.{row_of}
 
 module _ {R : Type 0} (spelled : R → List ℕ) where
   -- a node's line; a node whose row is empty has none

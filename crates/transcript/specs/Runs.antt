@@ -1,5 +1,5 @@
 -- A run of either kind: what its lines are answered by, and what they leave.
-use Rattle.std.specs.Prelude.{◌≡◌, ℕ, Bool, true, false, ◌||◌, List, [], ◌++◌, Ok, Err, Result, ◌==◌, nat_lt, refl}
+use Rattle.std.specs.Prelude.{◌≡◌, ℕ, Bool, true, false, ◌||◌, List, [], ◌++◌, Some, None, Ok, Err, Option, Result, ◌==◌, nat_lt, refl}
 use Rattle.std.proofs.Common.{arith}
 use Rattle.std.proofs.lemmas.Bool.{eqb-false, ltb-false, or_parts}
 use Rattle.refusal.specs.declared.Refusal.{Refusal}
@@ -13,15 +13,16 @@ use Rattle.law.specs.Law.{Sizes}
 use Rattle.play.specs.Played.{bad_sizes}
 use Rattle.spelling.specs.Bearings.{bearing_in, bearing_text}
 use Rattle.spelling.specs.Lamps.{lamp_in, lamp_text}
-use Rattle.console.specs.declared.types.Kind.{Kind}
-use Rattle.console.specs.declared.types.Kind.TheVariants as kind
+use Rattle.reading.specs.declared.kind.Kind.{Kind}
+use Rattle.reading.specs.declared.kind.Kind.TheVariants as kind
 use Rattle.console.specs.declared.types.Turn.TheVariants.{First}
 use Rattle.console.specs.declared.types.Command.{Command}
 use Rattle.console.specs.declared.types.Command.TheVariants as command
 use Rattle.console.specs.Grammar.{parsed}
-use Rattle.desk.specs.Desks.{Held, held, new_desk}
+use Rattle.desk.specs.Desks.{new_desk}
+use Rattle.desk.specs.Views.{Held}
 use Rattle.transcript.specs.declared.types.Run.{Run}
-use Rattle.transcript.specs.declared.types.Run.TheVariants.{Fresh, Bearings, Lamps}
+use Rattle.transcript.specs.declared.types.Run.TheVariants.{Bearings, Lamps}
 use Rattle.transcript.specs.Answers.{Answer, refuses, served}
 
 -- A run as it stands between two lines: nothing is made yet, or the desk of a kind.
@@ -30,10 +31,10 @@ pub data Standing : Type 0 where
   bearings : Held Bearing → Standing
   lamps : Held Lamp → Standing
 
-abbrev pub standing : Run → Standing
-standing Fresh = fresh
-standing (Bearings d) = bearings (held d)
-standing (Lamps d) = lamps (held d)
+abbrev pub standing : Option Run → Standing
+standing None = fresh
+standing (Some (Bearings d)) = bearings d
+standing (Some (Lamps d)) = lamps d
 
 -- sizes that are not bad are right
 pub right_sizes : (n m : ℕ) → bad_sizes n m ≡ false → Sizes n m

@@ -1,6 +1,5 @@
 //! What a line of a run on a desk is answered by.
-ghost use Rattle.std.specs.Prelude.{◌≡◌};
-ghost use Rattle.desk.specs.Desks.{held};
+ghost use Rattle.std.specs.Prelude.{◌≡◌, Ok};
 ghost use Rattle.spelling.specs.Texts.{Wrote};
 ghost use Rattle.transcript.specs.Answers.{reply_text, served};
 
@@ -10,7 +9,7 @@ use desk::{Desk, Reply};
 use spelling::{Spelled, write_look, write_refused};
 use std::alloc::{AllocError, Global};
 
-// Adds what a desk replied to a line to a text. The rows of an ended run are those of the desk.
+// Adds what a desk replied to a line that it accepted to a text. The rows of an ended run are those of the desk.
 fn write_reply<R: Spelled>(
     desk: &Desk<R>,
     heap: Global,
@@ -18,10 +17,9 @@ fn write_reply<R: Spelled>(
     reply: Reply<R>,
     text: &mut Vec<u8>,
 ) -> Result<(), AllocError>
-    ensures { Wrote result text.old.items text.new.items (reply_text R.Spelled.spelled number (held desk.now) reply) }
+    ensures { Wrote result text.old.items text.new.items (reply_text R.Spelled.spelled number desk.now (Ok reply)) }
 {
     match reply {
-        Reply::Refused(refusal) => write_refused(text, number, refusal),
         Reply::Done => Ok(()),
         Reply::Decision {
             node,
@@ -40,14 +38,14 @@ pub fn answer_line<R: Spelled>(
     line: &[u8],
     text: &mut Vec<u8>,
 ) -> Result<(), AllocError>
-    ensures text { Wrote result text.old.items text.new.items (served R.Spelled.spelled R.Reading.meaning R.Spelled.parses (held desk.old) number line.now).text }
-    ensures held { held desk.new ≡ (served R.Spelled.spelled R.Reading.meaning R.Spelled.parses (held desk.old) number line.now).after }
+    ensures text { Wrote result text.old.items text.new.items (served R.Spelled.spelled R.Reading.meaning R.Spelled.parses desk.old number line.now).text }
+    ensures desk { desk.new ≡ (served R.Spelled.spelled R.Reading.meaning R.Spelled.parses desk.old number line.now).after }
 {
     match parse_line::<R>(line, desk.turn()) {
-        Ok(command) => {
-            let reply = desk.run(&command);
-            write_reply(desk, heap, number, reply, text)
-        }
+        Ok(command) => match desk.run(&command) {
+            Ok(reply) => write_reply(desk, heap, number, reply, text),
+            Err(refusal) => write_refused(text, number, refusal),
+        },
         Err(fault) => write_refused(text, number, fault.refusal),
     }
 }

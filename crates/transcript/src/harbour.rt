@@ -1,11 +1,11 @@
 //! What the octets that come in to a harbour are answered by.
 ghost use Rattle.std.specs.Prelude.{◌≡◌};
-ghost use Rattle.lines.specs.Gathered.{held};
-ghost use Rattle.transcript.specs.Harbours.{view, before, line_served, ended, took, fed, finished};
+ghost use Rattle.transcript.specs.Harbours.{before, line_served, ended, took, fed, finished};
 ghost use Rattle.transcript.specs.Runs.{standing, fresh, Answers};
 
+use super::run::answer_run;
 use super::types::{Harbour, Run};
-use lines::Line;
+use lines::Incoming;
 use spelling::write_refused;
 use std::alloc::{AllocError, Global};
 
@@ -14,16 +14,16 @@ const LIMIT: usize = 60;
 
 // Adds what a line that has come in is answered by to a text. One of no octet or too many is refused.
 fn answer_gathered(
-    run: &mut Run,
+    run: &mut Option<Run>,
     heap: Global,
-    number: u64,
-    line: &Line,
+    line: &Incoming,
     text: &mut Vec<u8>,
 ) -> Result<(), AllocError>
-    ensures { Answers result text.old.items text.new.items (standing run.new) (line_served (standing run.old) number (held line.now)) }
+    ensures { Answers result text.old.items text.new.items (standing run.new) (line_served (standing run.old) line.now.number line.now.octets) }
 {
+    let number = line.number();
     match line.octets() {
-        Ok(octets) => run.answer(heap, number, octets, text),
+        Ok(octets) => answer_run(run, heap, number, octets, text),
         Err(refusal) => write_refused(text, number, refusal),
     }
 }
@@ -31,36 +31,30 @@ fn answer_gathered(
 impl Harbour {
     // A harbour that nothing has come in to.
     pub fn new() -> Harbour
-        ensures { view result ≡ before 1 fresh }
+        ensures { result ≡ before 1 fresh }
     {
         Harbour {
-            number: 1,
-            line: Line::new(LIMIT),
-            begun: false,
-            run: Run::Fresh,
+            incoming: Incoming::new(LIMIT),
+            run: None,
         }
     }
 
     // Answers the line that has come in, and begins the next.
     fn end_line(&mut self, heap: Global, text: &mut Vec<u8>) -> Result<(), AllocError>
-        ensures { Answers result text.old.items text.new.items (view self.new) (ended (view self.old)) }
+        ensures { Answers result text.old.items text.new.items self.new (ended self.old) }
     {
-        answer_gathered(&mut self.run, heap, self.number, &self.line, text)?;
-        self.number = self.number.wrapping_add(1);
-        self.line.clear();
-        self.begun = false;
+        answer_gathered(&mut self.run, heap, &self.incoming, text)?;
+        self.incoming.next_line();
         Ok(())
     }
 
     // Takes one octet: 10 ends the line.
     fn take(&mut self, heap: Global, octet: u8, text: &mut Vec<u8>) -> Result<(), AllocError>
-        ensures { Answers result text.old.items text.new.items (view self.new) (took (view self.old) octet) }
+        ensures { Answers result text.old.items text.new.items self.new (took self.old octet) }
     {
-        if octet == b'\n' {
+        if self.incoming.push(octet) {
             return self.end_line(heap, text);
         }
-        self.line.push(octet);
-        self.begun = true;
         Ok(())
     }
 
@@ -71,7 +65,7 @@ impl Harbour {
         octets: &[u8],
         text: &mut Vec<u8>,
     ) -> Result<(), AllocError>
-        ensures { Answers result text.old.items text.new.items (view self.new) (fed (view self.old) octets.now) }
+        ensures { Answers result text.old.items text.new.items self.new (fed self.old octets.now) }
     {
         for octet in octets {
             self.take(heap, *octet, text)?;
@@ -87,22 +81,19 @@ impl Harbour {
         size: usize,
         text: &mut Vec<u8>,
     ) -> Result<(), AllocError>
-        ensures { Answers result text.old.items text.new.items (view self.new) (fed (view self.old) octets.now) }
+        ensures { Answers result text.old.items text.new.items self.new (fed self.old octets.now) }
     {
-        let mut start = 0;
-        while start < octets.len() {
-            let end = start + size.max(1).min(octets.len() - start);
-            self.feed(heap, &octets[start..end], text)?;
-            start = end;
+        for part in octets.chunks(size.max(1)) {
+            self.feed(heap, part, text)?;
         }
         Ok(())
     }
 
     // Ends the input. A last line without octet 10 counts if anything of it has come.
     pub fn finish(&mut self, heap: Global, text: &mut Vec<u8>) -> Result<(), AllocError>
-        ensures { Answers result text.old.items text.new.items (view self.new) (finished (view self.old)) }
+        ensures { Answers result text.old.items text.new.items self.new (finished self.old) }
     {
-        if self.begun {
+        if self.incoming.has_begun() {
             return self.end_line(heap, text);
         }
         Ok(())

@@ -1,5 +1,5 @@
 //! The rows of an ended run as text.
-ghost use Rattle.desk.specs.Desks.{held, row_of};
+ghost use Rattle.desk.specs.Desks.{row_of};
 ghost use Rattle.spelling.specs.Texts.{Wrote};
 ghost use Rattle.transcript.specs.Rows.{row_line, rows_text};
 
@@ -14,7 +14,7 @@ fn write_node<R: Spelled>(
     node: usize,
     text: &mut Vec<u8>,
 ) -> Result<(), AllocError>
-    ensures { Wrote result text.old.items text.new.items (row_line R.Spelled.spelled node (row_of (held desk.now) node)) }
+    ensures { Wrote result text.old.items text.new.items (row_line R.Spelled.spelled node (row_of desk.now node)) }
 {
     let row = desk.row(heap, node)?;
     if row.is_empty() {
@@ -29,7 +29,7 @@ pub fn write_rows<R: Spelled>(
     heap: Global,
     text: &mut Vec<u8>,
 ) -> Result<(), AllocError>
-    ensures { Wrote result text.old.items text.new.items (rows_text R.Spelled.spelled (held desk.now)) }
+    ensures { Wrote result text.old.items text.new.items (rows_text R.Spelled.spelled desk.now) }
 {
     for node in 0..16 {
         write_node(desk, heap, node, text)?;

@@ -1,25 +1,32 @@
 //! A run of either kind, and the state of a harbour between two octets.
-ghost use Rattle.std.specs.Prelude.{◌≡◌};
-
 use desk::Desk;
-use lines::Line;
+use lines::Incoming;
 use reading::bearing::Bearing;
 use reading::lamp::Lamp;
+use std::marker::Model;
 
-// A run: nothing is made yet, or a desk of a kind.
+// A run that was made: a desk of a kind.
 #[derive(Drop)]
 pub enum Run {
-    Fresh,
     Bearings(Desk<Bearing>),
     Lamps(Desk<Lamp>),
 }
 
-// A harbour: the number of the line that is coming in, its octets, whether one of them has come, and the run.
+// A harbour: the line that is coming in, and the run, if one is made.
 #[derive(Drop)]
 pub struct Harbour {
-    pub(crate) number: u64,
-    pub(crate) line: Line,
-    pub(crate) begun: bool,
-    pub(crate) run: Run,
-    ghost limited: { line.limit ≡ 60 },
+    pub(crate) incoming: Incoming,
+    pub(crate) run: Option<Run>,
+}
+
+impl Model for Harbour {
+    ghost use Rattle.std.specs.Prelude.{◌≡◌};
+    ghost use Rattle.transcript.specs.Runs.{standing};
+    ghost use Rattle.transcript.specs.Harbours.{View, seen};
+
+    ghost Value = { View };
+
+    ghost view = { λ h. seen h.incoming (standing h.run) };
+
+    ghost invariant = { λ h. h.incoming.limit ≡ 60 };
 }

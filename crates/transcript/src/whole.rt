@@ -9,9 +9,7 @@ use std::alloc::{AllocError, Global};
 pub fn transcribe(heap: Global, input: &[u8], text: &mut Vec<u8>) -> Result<(), AllocError>
     ensures { Wrote result text.old.items text.new.items (answers_to (lines_in input.now)) }
 {
-    let mut harbour = Harbour::new();
-    harbour.feed(heap, input, text)?;
-    harbour.finish(heap, text)
+    transcribe_parts(heap, input, usize::MAX, text)
 }
 
 // The same of an input that comes in parts of `size` octets.

@@ -1,29 +1,31 @@
--- Two texts from a place on.
-use Rattle.std.proofs.Common.{◌≡◌, ℕ, ◌+◌, ◌<◌, ◌≤◌, min, cond, eqb, List, length, get_or, drop, Some, None, inl, inr, arith}
-use Rattle.std.proofs.lemmas.List.{drop_more, drop_all}
-use Rattle.std.proofs.lemmas.Bool.{cases_lt, eq-eqb, ne_eqb}
+-- Two texts from a place on, by the first place at which their octets are others.
+use Rattle.std.proofs.Common.{◌≡◌, ℕ, ◌+◌, min, Bool, true, false, cond, not, ◌==◌, List, [], ◌∷◌, length, position, Some, Option, refl, ap, ◌∙◌, sym, arith}
+use Rattle.std.specs.Bool.{then_some}
+use Rattle.std.specs.List.{zip, position_from}
+use Rattle.std.specs.Option.{option_or}
+use Rattle.std.proofs.lemmas.Grind.{common_steps}
+use Rattle.std.proofs.lemmas.Iterator.Adapters.{position_from-zero}
 use Rattle.trials.specs.Compare.{differs}
 
-module _ (xs ys : List ℕ) (i : ℕ) where
-  -- the octets at a place of both
-  pub differs_at : i < length xs → i < length ys
-      → differs i (drop i xs) (drop i ys) ≡ cond (eqb (get_or xs i 0) (get_or ys i 0)) (differs (i + 1) (drop (i + 1) xs) (drop (i + 1) ys)) (Some i)
-  differs_at h k = rw (drop_more xs i 0 h, drop_more ys i 0 k)
+-- where two texts differ if no place of both does
+abbrev at_end : ℕ → List ℕ → List ℕ → Option ℕ
+at_end i xs ys = then_some (not (length xs == length ys)) (i + min (length xs) (length ys))
 
-  pub same_at : i < length xs → i < length ys → get_or xs i 0 ≡ get_or ys i 0 → differs i (drop i xs) (drop i ys) ≡ differs (i + 1) (drop (i + 1) xs) (drop (i + 1) ys)
-  same_at h k e = let b = eq-eqb (get_or xs i 0) (get_or ys i 0) e in rw (differs_at h k, b)
+-- two texts that begin at place i differ at the first such place, or where one has ended
+differs_from : (i : ℕ) (xs ys : List ℕ) → differs i xs ys ≡ option_or (position_from (λ p. not (p.0 == p.1)) i (zip xs ys)) (at_end i xs ys)
+differs_from i [] [] = refl
+differs_from i [] (y ∷ ys) = grind (arith, common_steps)
+differs_from i (x ∷ xs) [] = grind (arith, common_steps)
+differs_from i (x ∷ xs) (y ∷ ys) = step (differs_from (i + 1) xs ys) (x == y)
+  where
+    step : differs (i + 1) xs ys ≡ option_or (position_from (λ p. not (p.0 == p.1)) (i + 1) (zip xs ys)) (at_end (i + 1) xs ys)
+        → (b : Bool) → cond b (differs (i + 1) xs ys) (Some i) ≡ option_or (cond (not b) (Some i) (position_from (λ p. not (p.0 == p.1)) (i + 1) (zip xs ys))) (at_end i (x ∷ xs) (y ∷ ys))
+    step e true = e ∙ ap (option_or (position_from (λ p. not (p.0 == p.1)) (i + 1) (zip xs ys))) (grind (arith, common_steps))
+    step e false = refl
 
-  pub other_at : i < length xs → i < length ys → (get_or xs i 0 ≡ get_or ys i 0 → ⊥) → differs i (drop i xs) (drop i ys) ≡ Some i
-  other_at h k e = let b = ne_eqb (get_or xs i 0) (get_or ys i 0) e in rw (differs_at h k, b)
-
-  -- both have ended
-  pub both_ended : length xs ≤ i → length ys ≤ i → differs i (drop i xs) (drop i ys) ≡ None
-  both_ended h k = rw (drop_all i xs h, drop_all i ys k)
-
-  -- one has ended, and the other goes on
-  pub one_ended : i ≡ min (length xs) (length ys) → (length xs ≡ length ys → ⊥) → differs i (drop i xs) (drop i ys) ≡ Some i
-  one_ended e ne =
-      elim (cases_lt (length xs) (length ys)) [
-        | inl h ↦ let a : length xs ≤ i = omega arith in let b : i < length ys = omega arith in rw (drop_all i xs a, drop_more ys i 0 b)
-        | inr h ↦ let a : length ys ≤ i = omega arith in let b : i < length xs = omega arith in rw (drop_all i ys a, drop_more xs i 0 b)
-      ]
+-- the same from the front on
+pub differs_position : (xs ys : List ℕ) → differs 0 xs ys ≡ option_or (position (λ p. not (p.0 == p.1)) (zip xs ys)) (then_some (not (length xs == length ys)) (min (length xs) (length ys)))
+differs_position xs ys =
+    differs_from 0 xs ys
+    ∙ ap (λ o. option_or o (at_end 0 xs ys)) (sym (position_from-zero (λ p. not (p.0 == p.1)) (zip xs ys)))
+    ∙ ap (λ k. option_or (position (λ p. not (p.0 == p.1)) (zip xs ys)) (then_some (not (length xs == length ys)) k)) (omega arith)

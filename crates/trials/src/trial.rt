@@ -29,13 +29,11 @@ pub(crate) fn compare(
 ) -> Result<Option<usize>, AllocError>
     ensures { IfOk result (λ o. o ≡ differs 0 (answers_to (lines_in input.now)) expected.now) }
 {
-    let one = compare_parts(heap, input, expected, 1)?;
-    if one.is_some() {
-        return Ok(one);
+    for size in [1, 7, 65536] {
+        let place = compare_parts(heap, input, expected, size)?;
+        if place.is_some() {
+            return Ok(place);
+        }
     }
-    let seven = compare_parts(heap, input, expected, 7)?;
-    if seven.is_some() {
-        return Ok(seven);
-    }
-    compare_parts(heap, input, expected, 65536)
+    Ok(None)
 }

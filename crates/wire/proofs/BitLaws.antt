@@ -1,6 +1,6 @@
 -- The steps of writing bits.
-use Rattle.std.proofs.Common.{◌≡◌, ℕ, suc, ◌+◌, ◌-◌, ◌*◌, ◌^◌, ◌<◌, ◌≤◌, min, Bool, true, false, List, [], ◌∷◌, ◌++◌, length, get_or, take, drop, set, sym, ap, ◌∙◌, inl, inr, append_assoc, pow-suc, arith, lit<, pow_mono}
-use Rattle.std.proofs.lemmas.List.{at_drop_more, take_all, drop_all, take_more_set, length-drop}
+use Rattle.std.proofs.Common.{◌≡◌, ℕ, suc, ◌+◌, ◌*◌, ◌%◌, ◌^◌, ◌<◌, ◌≤◌, min, Bool, true, false, List, [], ◌∷◌, ◌++◌, length, get_or, take, drop, set, sym, ap, ◌∙◌, subst, inl, inr, append_assoc, pow-suc, arith, lit<, pow_mono}
+use Rattle.std.proofs.lemmas.List.{take_all, drop_all, take_more, take_more_set, length-take-le}
 use Rattle.std.proofs.lemmas.Bool.{cases_lt}
 use Rattle.wire.specs.Bits.{bit_number, octet_of, packed}
 
@@ -10,23 +10,30 @@ octet_below [] = lit< tt
 octet_below (true ∷ bs) = let p = pow-suc 2 (length bs) in omega (arith, octet_below bs, p)
 octet_below (false ∷ bs) = let p = pow-suc 2 (length bs) in omega (arith, octet_below bs, p)
 
--- what is packed of eight bits before the last is below 128
-pub octet_small : (bits : List Bool) (j x : ℕ) → 0 < j → j ≤ length bits → length bits ≤ 8 → x ≡ octet_of (drop j bits) → x < 128
-octet_small bits j x h k l e =
-    let d = length-drop j bits in
-    let n : length (drop j bits) ≤ 7 = omega arith in
-    omega (arith, octet_below (drop j bits), pow_mono n)
+-- one bit more, above the others
+octet_snoc : (bs : List Bool) (b : Bool) → octet_of (bs ++ b ∷ []) ≡ octet_of bs + bit_number b * 2 ^ length bs
+octet_snoc [] true = omega arith
+octet_snoc [] false = omega arith
+octet_snoc (true ∷ bs) true = let p = pow-suc 2 (length bs) in omega (arith, octet_snoc bs true, p)
+octet_snoc (true ∷ bs) false = omega (arith, octet_snoc bs false)
+octet_snoc (false ∷ bs) true = let p = pow-suc 2 (length bs) in omega (arith, octet_snoc bs true, p)
+octet_snoc (false ∷ bs) false = omega (arith, octet_snoc bs false)
 
--- one bit more, below the others
-pub octet_back : (bits : List Bool) (j x : ℕ) (b : Bool) → 0 < j → j ≤ length bits → x ≡ octet_of (drop j bits)
-    → get_or bits (j - 1) false ≡ b → x * 2 + bit_number b ≡ octet_of (drop (j - 1) bits)
-octet_back bits j x b h k e f =
-    let l : j - 1 < length bits = omega arith in
-    let i : j - 1 + 1 ≡ j = omega arith in
-    let s : octet_of (drop (j - 1) bits) ≡ bit_number (get_or bits (j - 1) false) + 2 * octet_of (drop (j - 1 + 1) bits) =
-    at_drop_more octet_of bits (j - 1) false l in
-    let t : octet_of (drop (j - 1 + 1) bits) ≡ x = ap (λ n. octet_of (drop n bits)) i ∙ sym e in
-    omega (arith, s, t, ap bit_number f)
+-- the same of eight bits at most, from the first on
+pub octet_more : (bits : List Bool) (i x y : ℕ) → i < length bits → length bits ≤ 8 → x ≡ octet_of (take i bits)
+    → y ≡ bit_number (get_or bits i false) → (x + y * 2 ^ i % 256 ≡ octet_of (take (i + 1) bits)) × (x + y * 2 ^ i % 256 < 256)
+octet_more bits i x y h l e g =
+    let b = get_or bits i false in
+    let n : length (take i bits) ≡ i = length-take-le i bits (omega arith) in
+    let m : length (take (i + 1) bits) ≡ i + 1 = length-take-le (i + 1) bits (omega arith) in
+    let t : take (i + 1) bits ≡ take i bits ++ b ∷ [] = take_more bits i false h in
+    let s : octet_of (take (i + 1) bits) ≡ octet_of (take i bits) + bit_number b * 2 ^ i =
+    ap octet_of t ∙ octet_snoc (take i bits) b ∙ ap (λ k. octet_of (take i bits) + bit_number b * 2 ^ k) n in
+    let k : octet_of (take (i + 1) bits) < 2 ^ (i + 1) = subst (λ (k : ℕ). octet_of (take (i + 1) bits) < 2 ^ k) m (octet_below (take (i + 1) bits)) in
+    let u : i + 1 ≤ 8 = omega arith in
+    let p : 2 ^ (i + 1) ≤ 2 ^ 8 = pow_mono u in
+    let v : y * 2 ^ i ≡ bit_number b * 2 ^ i = ap (λ z. z * 2 ^ i) g in
+    (omega arith, omega arith)
 
 -- eight at most are eight, or all
 take_min : (s : ℕ) (xs : List Bool) → s ≡ min (length xs) 8 → take s xs ≡ take 8 xs

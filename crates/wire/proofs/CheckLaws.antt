@@ -1,5 +1,6 @@
 -- What passed checks tell.
-use Rattle.std.proofs.Common.{◌≡◌, ℕ, ◌≤◌, Bool, true, false, cond, eqb, ltb, ◌⊎◌, Some, None, Ok, Err, Option, Result, refl, inl, inr, arith}
+use Rattle.std.proofs.Common.{◌≡◌, ℕ, ◌≤◌, Bool, true, false, cond, eqb, ltb, ◌⊎◌, Some, None, Ok, Err, Option, Result, sym, refl, inl, inr, arith}
+use Rattle.std.specs.Option.{ok_or}
 use Rattle.std.specs.Result.{result_map_both}
 use Rattle.std.proofs.lemmas.Bool.{eqb-false, ltb-false, or_parts}
 use Rattle.refusal.specs.declared.Refusal.{Refusal}
@@ -44,6 +45,16 @@ with_letter_ok None later x e = err_ok _ x e
 pub unless_ok : {A : Type 0} (o : Option Fault) (x y : A) → unless_fault o x ≡ Ok y → (o ≡ None) × (x ≡ y)
 unless_ok None x y e = (refl, cc)
 unless_ok (Some f) x y e = err_ok f y e
+
+-- a last check that failed
+pub unless_err : {A B : Type 0} (o : Option Fault) (x : A) (y : B) (f : Fault) → unless_fault o x ≡ Err f → unless_fault o y ≡ Err f
+unless_err None x y f e = err_ok f x (sym e)
+unless_err (Some g) x y f e = cc
+
+-- a conversion that found something
+pub converted : {A E : Type 0} (o : Option A) (e : E) (x : A) → Ok x ≡ ok_or o e → o ≡ Some x
+converted (Some a) e x h = cc
+converted None e x h = err_ok e x (sym h)
 
 -- what an answer was made from
 pub mapped_ok : {A B E : Type 0} (f : A → B) (r : Result A E) (y : B) → result_map_both f (λ (e : E). e) r ≡ Ok y → (x : A) × ((r ≡ Ok x) × (f x ≡ y))

@@ -5,6 +5,7 @@ use Rattle.std.specs.List.{range_with_len, flat_map}
 use Rattle.std.specs.Result.{result_unwrap_or}
 use Rattle.std.proofs.lemmas.List.FromFn.{length-map-range_with_len, get_or-map-range_with_len}
 use Rattle.std.proofs.lemmas.List.{take_at, drop_at, drop-drop, get_or-take, get_or-drop, ext_get_or}
+use Rattle.refusal.specs.declared.Layer.TheVariants.{Message}
 use Rattle.wire.specs.Items.{all_zero, cell_octets, held, cell_of, item_octets, cell_at}
 use Rattle.wire.specs.Bits.{bit_number, octet_of, packed, bit_octets, bit_at}
 use Rattle.wire.specs.Messages.{cells_in, bits_in}
@@ -26,7 +27,7 @@ module _ {X : Type 0} (w : ℕ) (octets : X → List ℕ) (reads : List ℕ → 
     (back : (r : X) → reads (octets r) ≡ Some r) where
   -- a cell's octets are that cell
   cell_back : (cell : Option X) → cell_of reads (cell_octets w octets cell) ≡ Ok cell
-  cell_back None = ap (λ b. cond b (Ok None) (Err 2)) (zeros_replicate w)
+  cell_back None = ap (λ b. cond b (Ok None) (Err Message)) (zeros_replicate w)
   cell_back (Some r) = ap held (back r)
 
   -- an item's octets are its cell's

@@ -3,6 +3,7 @@ use Rattle.std.proofs.Common.{◌≡◌, ℕ, ◌+◌, ◌<◌, ◌≤◌, true,
 use Rattle.std.proofs.lemmas.Bool.{eq-eqb, eqb-true, le-ltb, ltb-false, lt-leb, leb-false, or_parts, not-false}
 use Rattle.refusal.specs.declared.Refusal.TheVariants.{BadSize, NoNode, Torn, OutOfTurn}
 use Rattle.refusal.specs.declared.Fault.{Fault}
+use Rattle.refusal.specs.declared.Layer.{Layer}
 use Rattle.reading.specs.Octets.{pair_at}
 use Rattle.wire.specs.declared.message.Letter.{Letter}
 use Rattle.wire.specs.Letters.{letter_of, letter_octet, takes_step}
@@ -26,7 +27,7 @@ passed w reads n m o l a b long k count fits node t =
     simp (a, b, e₂, k, e₃, e₄, e₅, t)
 
 -- an item that is not the first wrong one, and no later one is
-pub later_none : {X : Type 0} (r : Result X ℕ) (place : ℕ) (later : Option Fault) → or_later r place later ≡ None
+pub later_none : {X : Type 0} (r : Result X Layer) (place : ℕ) (later : Option Fault) → or_later r place later ≡ None
     → ((x : X) × (r ≡ Ok x)) × (later ≡ None)
 later_none (Ok x) place later e = ((x, refl), e)
 later_none (Err l) place later e = none_some _ e

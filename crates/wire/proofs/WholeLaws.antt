@@ -6,6 +6,7 @@ use Rattle.std.specs.Result.{result_unwrap_or}
 use Rattle.std.proofs.lemmas.List.FromFn.{length-map-range_with_len}
 use Rattle.std.proofs.lemmas.List.{take_at, drop_at, drop_all, drop-drop, take_all, take-append-drop, length-append, length-take, length-take-le, length-drop, get_or-drop, get_or-take, get_or_past}
 use Rattle.std.proofs.lemmas.Bool.{and_parts, eq-eqb, eqb-true, lt-leb, le-ltb, cases_lt, cases_eq}
+use Rattle.refusal.specs.declared.Layer.TheVariants.{Kind, Message}
 use Rattle.reading.specs.Octets.{pair_at}
 use Rattle.wire.specs.declared.message.Letter.{Letter}
 use Rattle.wire.specs.declared.message.Letter.TheVariants.{OfCells, OfBits}
@@ -62,7 +63,7 @@ zeros_are (x ∷ xs) e =
 -- a cell that is held has a reading of the kind
 held_some : {X : Type 0} (o : Option X) (c : Option X) → held o ≡ Ok c → (r : X) × ((o ≡ Some r) × (c ≡ Some r))
 held_some (Some r) c e = (r, (refl, cc))
-held_some None c e = err_ok 1 c e
+held_some None c e = err_ok Kind c e
 
 -- a number with no bit from the k-th on
 div_zero : (x k : ℕ) → x / 2 ^ k ≡ 0 → x < 2 ^ k
@@ -158,14 +159,14 @@ module _ {X : Type 0} (w : ℕ) (octets : X → List ℕ) (reads : List ℕ → 
       let q : cell ≡ None = cc z.1 in
       ap (cell_octets w octets) q ∙ sym (s ∙ cc (t, d)))
       (λ z. err_ok _ cell z.1)
-      (cond_ways (all_zero (drop 1 item)) (Ok None) (Err 2) (Ok cell) a.1))
+      (cond_ways (all_zero (drop 1 item)) (Ok None) (Err Message) (Ok cell) a.1))
       (λ a. ⊎_elim
       (λ z. let t : get_or item 0 0 ≡ 1 = eqb-true (get_or item 0 0) 1 z.0 in
       let r = held_some (reads (drop 1 item)) cell z.1 in
       let d : octets r.0 ≡ drop 1 item = whole (drop 1 item) r.0 (octets_drop 1 item b) r.1.0 in
       ap (cell_octets w octets) r.1.1 ∙ sym (s ∙ cc (t, d)))
       (λ z. err_ok _ cell z.1)
-      (cond_ways (eqb (get_or item 0 0) 1) (held (reads (drop 1 item))) (Err 2) (Ok cell) a.1))
+      (cond_ways (eqb (get_or item 0 0) 1) (held (reads (drop 1 item))) (Err Message) (Ok cell) a.1))
       (cond_ways (eqb (get_or item 0 0) 0) _ _ (Ok cell) e)
 
   -- items without a fault are those of the cells that are found in them

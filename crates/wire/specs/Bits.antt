@@ -1,13 +1,13 @@
 -- Bits in octets: item c is bit c mod 8, from the lowest, of octet c div 8, and bits of no item are 0.
-use Rattle.std.specs.Prelude.{ℕ, zero, suc, ◌+◌, ◌-◌, ◌*◌, ◌/◌, ◌%◌, ◌^◌, Bool, true, false, cond, List, [], ◌∷◌, length, take, drop, Some, None, Option, ◌==◌, slice_index}
+use Rattle.std.specs.Prelude.{ℕ, zero, suc, ◌+◌, ◌-◌, ◌*◌, ◌/◌, ◌%◌, ◌^◌, Bool, cond, List, [], ◌∷◌, length, take, drop, Some, None, Option, ◌==◌, slice_index}
+use Rattle.std.specs.Int.{from_bool}
 use Rattle.refusal.specs.declared.Refusal.TheVariants.{StrangeReading}
 use Rattle.refusal.specs.declared.Fault.{Fault}
 use Rattle.wire.specs.Faults.{in_message}
 
 -- a bit as a number
 abbrev pub bit_number : Bool → ℕ
-bit_number true = 1
-bit_number false = 0
+bit_number b = from_bool b
 
 -- the number of some bits, the first one lowest
 abbrev pub octet_of : List Bool → ℕ

@@ -2,10 +2,11 @@
 use Rattle.std.specs.Prelude.{ℕ, Bool, true, false, ◌||◌, Err, Result, ◌==◌, nat_lt}
 use Rattle.refusal.specs.declared.Refusal.{Refusal}
 use Rattle.refusal.specs.declared.Fault.{Fault}
+use Rattle.refusal.specs.declared.Layer.TheVariants.{Message}
 
 -- a fault that the layer of messages finds at a place
 abbrev pub in_message : Refusal → ℕ → Fault
-in_message e place = record { refusal = e; layer = 2; place = place }
+in_message e place = record { refusal = e; layer = Message; place = place }
 
 -- one check of a chain: the refusal at its place where the test hits, else what the later checks say
 abbrev pub check : {X : Type 0} → Bool → Refusal → ℕ → Result X Fault → Result X Fault

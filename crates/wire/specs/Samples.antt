@@ -2,6 +2,7 @@
 use Rattle.std.specs.Prelude.{◌≡◌, ℕ, true, false, List, [], ◌∷◌, Some, None, Ok, Err, Result}
 use Rattle.refusal.specs.declared.Refusal.TheVariants.{NoNode, Torn, StrangeReading, OutOfTurn}
 use Rattle.refusal.specs.declared.Fault.{Fault}
+use Rattle.refusal.specs.declared.Layer.TheVariants.{Kind}
 use Rattle.reading.specs.declared.bearing.Bearing.{Bearing}
 use Rattle.reading.specs.declared.lamp.Lamp.{Lamp}
 use Rattle.reading.specs.Bearings.{bearing_reads}
@@ -36,7 +37,7 @@ pub record Samples : Type 0 where
   -- a flag 0 before octets that are not zero
   pub blank : bearings_read 1 (80 ∷ 0 ∷ 1 ∷ 3 ∷ 1 ∷ 0 ∷ 0 ∷ 7 ∷ []) ≡ Err (in_message StrangeReading 5)
   -- octets that are no lamp
-  pub strange : lamps_read 1 (69 ∷ 0 ∷ 2 ∷ 0 ∷ 1 ∷ 1 ∷ 4 ∷ 0 ∷ 0 ∷ []) ≡ Err (strange_at 1 5)
+  pub strange : lamps_read 1 (69 ∷ 0 ∷ 2 ∷ 0 ∷ 1 ∷ 1 ∷ 4 ∷ 0 ∷ 0 ∷ []) ≡ Err (strange_at Kind 5)
   -- a wrong length, a wrong node and a wrong step at once
   pub torn : bearings_read 1 (70 ∷ 0 ∷ 2 ∷ 4 ∷ 1 ∷ 0 ∷ 0 ∷ []) ≡ Err (in_message Torn 7)
   -- a wrong node and a wrong step

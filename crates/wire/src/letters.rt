@@ -1,23 +1,27 @@
 //! The letters of messages, and the steps in which each is sent.
 ghost use Rattle.std.specs.Prelude.{◌≡◌};
-ghost use Rattle.wire.specs.Letters.{letter_of, letter_octet, takes_step};
+ghost use Rattle.wire.specs.Letters.{letter_octet, takes_step, Lettered};
 
-use crate::message::{BitLetter, CellLetter, Letter};
+use crate::message::{BitLetter, CellLetter, Letter, NoLetter};
 
-impl Letter {
-    // The letter that an octet is, if it is one.
-    pub fn of(octet: u8) -> Option<Letter>
-        ensures { result ≡ letter_of octet }
-    {
+// The letter that an octet is.
+impl TryFrom<u8> for Letter {
+    type Error = NoLetter;
+
+    ghost try_from_gives = { Lettered };
+
+    fn try_from(octet: u8) -> Result<Letter, NoLetter> {
         match octet {
-            b'P' => Some(Letter::OfCells(CellLetter::Poll)),
-            b'E' => Some(Letter::OfCells(CellLetter::Echo)),
-            b'B' => Some(Letter::OfBits(BitLetter::Bits)),
-            b'F' => Some(Letter::OfBits(BitLetter::Final)),
-            _ => None,
+            b'P' => Ok(Letter::OfCells(CellLetter::Poll)),
+            b'E' => Ok(Letter::OfCells(CellLetter::Echo)),
+            b'B' => Ok(Letter::OfBits(BitLetter::Bits)),
+            b'F' => Ok(Letter::OfBits(BitLetter::Final)),
+            _ => Err(NoLetter),
         }
     }
+}
 
+impl Letter {
     // The octet of the letter.
     pub fn octet(self) -> u8
         ensures { result ≡ letter_octet self }
@@ -37,7 +41,7 @@ impl Letter {
         match self {
             Letter::OfCells(CellLetter::Poll) => step == 1,
             Letter::OfCells(CellLetter::Echo) => step == 2,
-            Letter::OfBits(_) => 3 <= step && step <= 302,
+            Letter::OfBits(_) => (3..=302).contains(&step),
         }
     }
 }

@@ -11,4 +11,6 @@ pub mod read;
 pub mod trips;
 pub mod write;
 
-pub use message::{BitLetter, CellLetter, Head, Letter, Message};
+pub use faults::{in_message, out_of_range};
+pub use items::{check_cells, read_cell, read_item, stride, write_cell};
+pub use message::{BitLetter, CellLetter, Head, Letter, Message, NoLetter};

@@ -9,6 +9,7 @@ use crate::message::{BitLetter, CellLetter, Letter, Message};
 use reading::Reading;
 use refusal::Refusal;
 
+// An enum cannot have a model, so the contracts name the parts of a message by `parts_of`.
 impl<'a> Message<'a> {
     // The message's letter.
     pub fn letter(&self) -> Letter
@@ -56,7 +57,7 @@ impl<'a> Message<'a> {
 
     // The cell of an item. Refused are an item that the message has not, a message of bits, and octets that are no cell of this kind.
     pub fn cell<R: Reading>(&self, item: usize) -> Result<Option<R>, Refusal>
-        ensures { result ≡ cell_answer R.Reading.width R.Reading.reads (parts_of self.now) item }
+        ensures { result ≡ cell_answer R.Reading.WIDTH R.Reading.reads (parts_of self.now) item }
     {
         if item >= self.items() {
             return Err(Refusal::NoItem);
@@ -68,10 +69,7 @@ impl<'a> Message<'a> {
         if body.len() < (item + 1) * stride::<R>() {
             return Err(Refusal::StrangeReading);
         }
-        match read_cell::<R>(body, item) {
-            Ok(cell) => Ok(cell),
-            Err(_) => Err(Refusal::StrangeReading),
-        }
+        read_cell::<R>(body, item).map_err(|_| Refusal::StrangeReading)
     }
 
     // The bit of an item. Refused are an item that the message has not, a message of cells, and a body that ends before the bit.

@@ -1,4 +1,6 @@
 //! Messages as they are read, and what stands in front of a message that is written.
+ghost use Rattle.std.specs.Prelude.{◌≡◌};
+ghost use Rattle.wire.specs.Messages.{heading};
 
 // How many octets stand before a message's body: its letter, its step in two, its node and the number of its items.
 pub const HEAD_LENGTH: usize = 5;
@@ -24,12 +26,29 @@ pub enum Letter {
     OfBits(BitLetter),
 }
 
+// An octet that is no letter.
+#[derive(Clone, Copy, PartialEq, Eq, Debug)]
+pub struct NoLetter;
+
 // What a message says besides its items: its letter, its step and the node that sends it.
 #[derive(Clone, Copy)]
 pub struct Head<L> {
     pub letter: L,
     pub step: usize,
     pub node: usize,
+}
+
+impl<L: Copy> Head<L> {
+    // The same step and node with another letter.
+    pub fn with_letter<M>(self, letter: M) -> Head<M>
+        ensures { result ≡ heading letter self.step self.node }
+    {
+        Head {
+            letter,
+            step: self.step,
+            node: self.node,
+        }
+    }
 }
 
 // A message as read: the node that sends it, the number of its items, and its body, a part of the octets that it was read from.

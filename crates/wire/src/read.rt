@@ -2,11 +2,11 @@
 ghost use Rattle.std.specs.Prelude.{◌≡◌, ◌≤◌, true, length, IfOk};
 ghost use Rattle.wire.specs.Letters.{takes_step};
 ghost use Rattle.wire.specs.Messages.{heading, body_length, parts_of, contents_of, message_octets};
-ghost use Rattle.wire.specs.Reads.{body_fault, read_answer, read_parts};
+ghost use Rattle.wire.specs.Reads.{body_fault, unless_fault, read_answer, read_parts};
 
-use crate::bits::{count_octets, find_unused_bit};
+use crate::bits::{check_unused_bits, count_octets};
 use crate::faults::{in_message, out_of_range};
-use crate::items::{find_strange_cell, stride};
+use crate::items::{check_cells, stride};
 use crate::message::{BitLetter, CellLetter, Letter, Message};
 use reading::Reading;
 use refusal::{Fault, Refusal};
@@ -14,7 +14,7 @@ use refusal::{Fault, Refusal};
 // How many octets the body of so many items takes.
 fn count_body<R: Reading>(letter: Letter, items: usize) -> usize
     requires { items ≤ 16 }
-    ensures { result ≡ body_length R.Reading.width letter items }
+    ensures { result ≡ body_length R.Reading.WIDTH letter items }
 {
     match letter {
         Letter::OfCells(_) => items * stride::<R>(),
@@ -22,15 +22,15 @@ fn count_body<R: Reading>(letter: Letter, items: usize) -> usize
     }
 }
 
-// The fault of a body of so many items, if it has one.
-fn find_fault<R: Reading>(letter: Letter, items: usize, body: &[u8]) -> Option<Fault>
+// Checks the items that a body has, so many of them.
+fn check_body<R: Reading>(letter: Letter, items: usize, body: &[u8]) -> Result<(), Fault>
     requires some { 1 ≤ items }
-    requires long { length body.now ≡ body_length R.Reading.width letter items }
-    ensures { result ≡ body_fault R.Reading.width R.Reading.reads letter items body.now }
+    requires long { length body.now ≡ body_length R.Reading.WIDTH letter items }
+    ensures { result ≡ unless_fault (body_fault R.Reading.WIDTH R.Reading.reads letter items body.now) tt }
 {
     match letter {
-        Letter::OfCells(_) => find_strange_cell::<R>(body, items),
-        Letter::OfBits(_) => find_unused_bit(body, items),
+        Letter::OfCells(_) => check_cells::<R>(body, items),
+        Letter::OfBits(_) => check_unused_bits(body, items),
     }
 }
 
@@ -63,8 +63,8 @@ pub fn read_message<'a, R: Reading>(
     n: usize,
     m: usize,
 ) -> Result<Message<'a>, Fault>
-    ensures answer { read_parts result ≡ read_answer R.Reading.width R.Reading.reads n m octets.now }
-    ensures whole { IfOk result (λ x. message_octets R.Reading.width R.Reading.octets (contents_of R.Reading.width R.Reading.reads (parts_of x)) ≡ octets.now) }
+    ensures answer { read_parts result ≡ read_answer R.Reading.WIDTH R.Reading.reads n m octets.now }
+    ensures whole { IfOk result (λ x. message_octets R.Reading.WIDTH R.Reading.octets (contents_of R.Reading.WIDTH R.Reading.reads (parts_of x)) ≡ octets.now) }
 {
     if out_of_range(n) || out_of_range(m) {
         return Err(in_message(Refusal::BadSize, 0));
@@ -72,7 +72,7 @@ pub fn read_message<'a, R: Reading>(
     let [first, high, low, node, items, body @ ..] = octets else {
         return Err(in_message(Refusal::Torn, octets.len()));
     };
-    let Some(letter) = Letter::of(*first) else {
+    let Ok(letter) = Letter::try_from(*first) else {
         return Err(in_message(Refusal::StrangeLetter, 0));
     };
     if *items as usize != m || body.len() != count_body::<R>(letter, m) {
@@ -85,8 +85,6 @@ pub fn read_message<'a, R: Reading>(
     if !letter.takes(step as usize) {
         return Err(in_message(Refusal::OutOfTurn, 1));
     }
-    if let Some(fault) = find_fault::<R>(letter, m, body) {
-        return Err(fault);
-    }
+    check_body::<R>(letter, m, body)?;
     Ok(assemble(letter, step, *node, *items, body))
 }

@@ -6,17 +6,17 @@ use reading::Reading;
 
 // What is written reads back as its contents.
 pub fn written_reads_back<R: Reading>()
-    ensures { WrittenReadsBack R.Reading.width R.Reading.octets R.Reading.reads }
+    ensures { WrittenReadsBack R.Reading.WIDTH R.Reading.octets R.Reading.reads }
 {}
 
 // Octets that are read as a message are those that its contents give.
 pub fn read_was_written<R: Reading>()
-    ensures { ReadWasWritten R.Reading.width R.Reading.octets R.Reading.reads }
+    ensures { ReadWasWritten R.Reading.WIDTH R.Reading.octets R.Reading.reads }
 {}
 
 // A message that is read answers for each item what its contents say.
 pub fn items_as_said<R: Reading>()
-    ensures { ItemsAsSaid R.Reading.width R.Reading.reads }
+    ensures { ItemsAsSaid R.Reading.WIDTH R.Reading.reads }
 {}
 
 // The sample messages are read as they should be.

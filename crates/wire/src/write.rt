@@ -60,21 +60,17 @@ pub fn write_cells<R: Reading>(
     cells: &[Option<R>],
     out: &mut [u8],
 ) -> Result<usize, Fault>
-    ensures answer { result ≡ write_answer (cells_head head) n m (length cells.now) (m * (R.Reading.width + 1)) (length out.old) }
-    ensures after { out.new ≡ written result (cells_message R.Reading.width R.Reading.octets head cells.now) out.old }
+    ensures answer { result ≡ write_answer (cells_head head) n m (length cells.now) (m * (R.Reading.WIDTH + 1)) (length out.old) }
+    ensures after { out.new ≡ written result (cells_message R.Reading.WIDTH R.Reading.octets head cells.now) out.old }
 {
-    let head = Head {
-        letter: Letter::OfCells(head.letter),
-        step: head.step,
-        node: head.node,
-    };
+    let head = head.with_letter(Letter::OfCells(head.letter));
     check_head(&head, n, m, cells.len())?;
     let long = write_head(&head, m, HEAD_LENGTH + m * stride::<R>(), out)?;
     write_cell_octets(cells, &mut out[HEAD_LENGTH..long]);
     Ok(long)
 }
 
-// The same with a bit of each of m items.
+// The same with a bit of each of m items. A trait of bodies would say no more plainly what differs: the size and the octets of the body.
 pub fn write_bits(
     n: usize,
     m: usize,
@@ -85,11 +81,7 @@ pub fn write_bits(
     ensures answer { result ≡ write_answer (bits_head head) n m (length bits.now) (octets_for m) (length out.old) }
     ensures after { out.new ≡ written result (bits_message head bits.now) out.old }
 {
-    let head = Head {
-        letter: Letter::OfBits(head.letter),
-        step: head.step,
-        node: head.node,
-    };
+    let head = head.with_letter(Letter::OfBits(head.letter));
     check_head(&head, n, m, bits.len())?;
     let long = write_head(&head, m, HEAD_LENGTH + count_octets(m), out)?;
     write_bit_octets(bits, &mut out[HEAD_LENGTH..long]);

@@ -12,7 +12,7 @@ impl Period {
     pub fn new(tenths: u16) -> Result<Period, Refusal>
         ensures { result ≡ ok_or (period_of tenths) StrangeReading }
     {
-        if 1 <= tenths && tenths <= 600 {
+        if (1..=600).contains(&tenths) {
             Ok(Period::within(tenths))
         } else {
             Err(Refusal::StrangeReading)

@@ -1,7 +1,13 @@
-use Rattle.std.proofs.Common.{set, ap, ◌∙◌}
-use Rattle.board.proofs.Boards.{written_more}
+use Rattle.std.proofs.Common.{◌≡◌, ◌++◌, take, drop, ap, ◌∙◌, arith}
+use Rattle.std.proofs.lemmas.List.{length-take}
+use Rattle.board.specs.Tables.{written}
+use Rattle.board.proofs.Boards.{written_front}
 use Rattle.board.proofs.grid.fill_front.Goals as goal
 
-pub loop-i-preserved : goal.loop-i-preserved
-loop-i-preserved g c =
-    ap (λ ys. set ys c.loop-i.i c.args.v) c.loop-i.invariant ∙ written_more (λ _. c.args.v) c.args.cells.now c.loop-i.i
+pub returns : goal.returns
+returns g c =
+    let xs = c.args.cells.now in
+    let n = c.args.count in
+    let all : c.loop-cell.cell-index ≡ n = omega (arith, length-take n xs, c.loop-cell.auto.cell-index-end, c.requires) in
+    ap (λ ys. ys ++ drop n xs) (c.loop-cell.invariant ∙ ap (λ i. written i (λ _. c.args.v) (take n xs)) all)
+    ∙ written_front n (λ _. c.args.v) xs (omega (arith, c.requires))

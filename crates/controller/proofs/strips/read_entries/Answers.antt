@@ -1,7 +1,7 @@
-use Rattle.std.proofs.Common.{◌≡◌, ◌/◌, ◌<◌, [], ◌∷◌, ◌++◌, map, length, sym, ap, ◌∙◌, arith, rules}
+use Rattle.std.proofs.Common.{◌≡◌, ◌<◌, [], ◌∷◌, ◌++◌, map, length, sym, ap, ◌∙◌, arith, rules}
 use Rattle.std.specs.List.{range_with_len}
 use Rattle.std.proofs.lemmas.List.FromFn.{map-range_with_len_more}
-use Rattle.std.proofs.lemmas.List.{take_all, take_more_set}
+use Rattle.std.proofs.lemmas.List.{take_more_set}
 use Rattle.controller.specs.Strips.{entry_at}
 use Rattle.controller.proofs.strips.read_entries.Goals as goal
 
@@ -15,11 +15,3 @@ loop-i-preserved c =
     ∙ ap (λ ys. ys ++ c.from_be_bytes.result ∷ []) c.loop-i.invariant
     ∙ ap (λ x. map (entry_at o) (range_with_len 0 i) ++ x ∷ []) v
     ∙ sym (map-range_with_len_more (entry_at o) 0 i i (omega arith))
-
-pub returns : goal.returns
-returns c =
-    let i = c.loop-i.i in
-    let e : i ≡ length c.args.octets.now / 2 = omega arith in
-    sym (take_all i c.loop-i.entries (omega (arith, c.loop-i.auto.entries)))
-    ∙ c.loop-i.invariant
-    ∙ ap (λ n. map (entry_at c.args.octets.now) (range_with_len 0 n)) e

@@ -12,7 +12,7 @@ use Rattle.controller.proofs.write.write_given_cells.Goals as goal
 
 pub returns : goal.returns
 returns g c =
-    let w = g.R.Reading.width in
+    let w = g.R.Reading.WIDTH in
     let octets = g.R.Reading.octets in
     let reads = g.R.Reading.reads in
     let m = c.args.head.now.items in
@@ -21,10 +21,10 @@ returns g c =
     let xs = cells_in w reads o m in
     let given = take (m - 0) c.read_cells.new.cells in
     let head : Head CellLetter = head_with c.args.letter c.args.head.now in
-    let none : cells_fault w reads o 0 m ≡ None = (unless_ok (cells_fault w reads o 0 m) tt c.in_default.field-0 (sym c.in_default.ensures.answer)).0 in
+    let none : cells_fault w reads o 0 m ≡ None = (unless_ok (cells_fault w reads o 0 m) tt c.in_ok-read_cells.field-0 (sym c.in_ok-read_cells.ensures.answer)).0 in
     let whole : length o ≡ m * (w + 1) = c.if-items-m.false ∙ ap (λ n. m * n) c.stride.ensures in
     let cells : given ≡ xs =
-    ap (take (m - 0)) c.in_default.ensures.after ∙ front_all xs c.args.cells.now m c.requires.space (length-map-range_with_len _ 0 m) c.requires.few in
+    ap (take (m - 0)) c.in_ok-read_cells.ensures.after ∙ front_all xs c.args.cells.now m c.requires.space (length-map-range_with_len _ 0 m) c.requires.few in
     let h : c.head_with.result ≡ head = c.head_with.ensures in
     let answer = λ (x : Head CellLetter) (cs : List (Option _)). write_answer (cells_head x) c.args.n m (length cs) (m * (w + 1)) (length place) in
     let left = λ (x : Head CellLetter) (cs : List (Option _)). written c.write_cells.result (cells_message w octets x cs) place in

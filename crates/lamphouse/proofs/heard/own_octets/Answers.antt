@@ -1,21 +1,15 @@
-use Rattle.std.proofs.Common.{length, replicate, Ok, ap, ◌∙◌}
+use Rattle.std.proofs.Common.{replicate, Ok, ap, ◌∙◌}
 use Rattle.relay.specs.Own.{own_octets, own_refusal}
-use Rattle.lamphouse.proofs.RunLaws.{placed_front, refused_alike}
+use Rattle.lamphouse.proofs.RunLaws.{placed_front}
 use Rattle.lamphouse.proofs.heard.own_octets.Goals as goal
 
-pub returns-in_ok-from_slice-in-Ok : goal.returns-in_ok-from_slice-in-Ok
-returns-in_ok-from_slice-in-Ok g c =
+pub returns : goal.returns
+returns g c =
     let s = c.args.participant.now in
-    let w = g.R.Reading.width in
+    let w = g.R.Reading.WIDTH in
     let octets = g.R.Reading.octets in
-    ap Ok (c.in_ok-from_slice-in-Ok.ensures.items ∙ c.front.ensures)
-    ∙ placed_front (own_refusal w octets s.instance s.values.items s.node (replicate 149 0)) (own_octets w octets s.instance s.values.items s.node) (replicate 149 0)
-    c.message.new.place c.in-Ok.count c.in-Ok.ensures.answer c.in-Ok.ensures.place
-
-pub returns-in-Err : goal.returns-in-Err
-returns-in-Err g c =
-    let s = c.args.participant.now in
-    let w = g.R.Reading.width in
-    let octets = g.R.Reading.octets in
-    let own = own_octets w octets s.instance s.values.items s.node in
-    refused_alike (own_refusal w octets s.instance s.values.items s.node (replicate 149 0)) c.in-Err.refusal (length own) own c.in-Err.ensures.answer
+    let values = s.world.values in
+    let told = c.in_ok-count.ensures in
+    ap Ok c.in_ok-from_slice.ensures.items
+    ∙ placed_front (own_refusal w octets s.world.state values s.node (replicate 149 0)) (own_octets w octets s.world.state values s.node) (replicate 149 0)
+    c.message.new.place c.in_ok-count.count told.answer told.place

@@ -7,8 +7,8 @@ use Rattle.lamphouse.proofs.task.parse_all.Given as goal
 -- what was read, and what is to come, make up the whole
 abbrev pub invariant-loop-field : goal.invariant-loop-field
 invariant-loop-field g l =
-    option_map (λ xs. vec_items l.list ++ xs) (all_of g.T.Parse.parses (to_come l.walk))
+    option_map (λ xs. vec_items l.list ++ xs) (all_of g.T.Parse.parses (to_come l.field-iterator))
     ≡ all_of g.T.Parse.parses (to_come l.initial.walk)
 
 abbrev pub decreases-loop-field : goal.decreases-loop-field
-decreases-loop-field g l = length (to_come l.walk)
+decreases-loop-field g l = length (to_come l.field-iterator)

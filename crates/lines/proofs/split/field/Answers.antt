@@ -1,14 +1,9 @@
-use Rattle.std.proofs.Common.{drop, ap, ◌∙◌, rules}
-use Rattle.std.proofs.lemmas.List.{drop-drop}
+use Rattle.std.proofs.lemmas.Iterator.Consumers.{nth_from_yields_List, YieldsList-from_first}
 use Rattle.lines.specs.Fields.{fields}
-use Rattle.lines.proofs.Walking.{nth_left, nth_none}
+use Rattle.lines.specs.Walk.{to_come}
 use Rattle.lines.proofs.split.field.Goals as goal
 
-pub loop-k-preserved : goal.loop-k-preserved
-loop-k-preserved c = c.next.ensures.left ∙ ap (drop 1) c.loop-k.invariant ∙ drop-drop 1 c.loop-k._k (fields c.args.part c.args.line.now)
-
-pub returns-in_err-next : goal.returns-in_err-next
-returns-in_err-next c = search (rules, nth_none)
-
 pub returns : goal.returns
-returns c = search (rules, nth_left)
+returns c =
+    let fs = fields c.args.part c.args.line.now in
+    nth_from_yields_List c.nth.result c.nth.new.self c.args.index c.nth.ensures.ran (YieldsList-from_first (λ f. f.now) to_come fs c.new.ensures)

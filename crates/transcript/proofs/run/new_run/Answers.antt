@@ -1,14 +1,19 @@
-use Rattle.std.proofs.Common.{sym, refl, ap, ◌∙◌, subst}
-use Rattle.desk.specs.Desks.{Makes, size_refusal}
-use Rattle.console.specs.declared.types.Kind.TheVariants.{Bearings, Lamps}
-use Rattle.transcript.specs.Runs.{bearings, lamps, made_run}
-use Rattle.transcript.proofs.RunLaws.{begun_on}
+use Rattle.std.proofs.Common.{rules}
+use Rattle.transcript.proofs.RunLaws.{begun_on, not_begun}
+use Rattle.reading.specs.declared.bearing.Bearing.{Bearing}
+use Rattle.reading.specs.declared.lamp.Lamp.{Lamp}
+use Rattle.reading.specs.declared.kind.Kind.TheVariants.{Bearings, Lamps}
+use Rattle.transcript.specs.Runs.{bearings, lamps}
 use Rattle.transcript.proofs.run.new_run.Goals as goal
 
-pub returns-in-Ok : goal.returns-in-Ok
-returns-in-Ok c =
-    begun_on c.args.n c.args.m Bearings bearings c.in-Ok.desk (λ s. refl) (subst (λ a. Makes c.args.n c.args.m (size_refusal c.args.n c.args.m) a) c.in-Ok.is c.in_ok-desk-in-Bearings.ensures) ∙ sym (ap (λ k. made_run c.args.n c.args.m k) c.in-Bearings.is)
+pub returns-in_ok-make-in-Bearings : goal.returns-in_ok-make-in-Bearings
+returns-in_ok-make-in-Bearings c = search (rules, begun_on c.args.n c.args.m Bearings bearings)
 
-pub returns-in-Ok-2 : goal.returns-in-Ok-2
-returns-in-Ok-2 c =
-    begun_on c.args.n c.args.m Lamps lamps c.in-Ok-2.desk (λ s. refl) (subst (λ a. Makes c.args.n c.args.m (size_refusal c.args.n c.args.m) a) c.in-Ok-2.is c.in_ok-desk-in-Lamps.ensures) ∙ sym (ap (λ k. made_run c.args.n c.args.m k) c.in-Lamps.is)
+pub returns-in_err-make-in-Bearings : goal.returns-in_err-make-in-Bearings
+returns-in_err-make-in-Bearings c = search (rules, not_begun Bearing c.args.n c.args.m Bearings)
+
+pub returns-in_ok-make-in-Lamps : goal.returns-in_ok-make-in-Lamps
+returns-in_ok-make-in-Lamps c = search (rules, begun_on c.args.n c.args.m Lamps lamps)
+
+pub returns-in_err-make-in-Lamps : goal.returns-in_err-make-in-Lamps
+returns-in_err-make-in-Lamps c = search (rules, not_begun Lamp c.args.n c.args.m Lamps)

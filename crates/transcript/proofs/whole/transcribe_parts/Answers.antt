@@ -1,10 +1,6 @@
-use Rattle.std.proofs.Common.{vec_items, arith}
-use Rattle.transcript.specs.Harbours.{view}
+use Rattle.std.proofs.Common.{rules}
 use Rattle.transcript.proofs.LineLaws.{transcribed}
 use Rattle.transcript.proofs.whole.transcribe_parts.Goals as goal
 
 pub returns : goal.returns
-returns c =
-    transcribed c.finish.result (vec_items c.args.text.now) (vec_items c.feed_parts.new.text) (vec_items c.finish.new.text)
-    (view c.new-harbour.result) (view c.feed_parts.new.self) (view c.finish.new.self) c.args.input.now
-    (omega arith) c.new-harbour.ensures c.in_ok-feed_parts.ensures c.finish.ensures
+returns c = search (rules, transcribed)

@@ -4,7 +4,6 @@ use Rattle.wire.specs.Items.{cell_octets}
 use Rattle.wire.proofs.items.write_cell_octets.Given as goal
 
 -- the cells so far are written in front
-abbrev pub invariant-loop-cell : goal.invariant-loop-cell
-invariant-loop-cell g l =
-    (take l.start l.out ≡ flat_map (cell_octets g.R.Reading.width g.R.Reading.octets) (take l.cell-index l.cells))
-    × (l.start ≡ l.cell-index * (g.R.Reading.width + 1))
+abbrev pub invariant-loop-i : goal.invariant-loop-i
+invariant-loop-i g l =
+    take (l.i * (g.R.Reading.WIDTH + 1)) l.out ≡ flat_map (cell_octets g.R.Reading.WIDTH g.R.Reading.octets) (take l.i l.cells)

@@ -5,12 +5,9 @@ use Rattle.agreement.specs.Calls.{send_final_refusal, with_final}
 use Rattle.agreement.proofs.Paths.{instance_path}
 use Rattle.agreement.proofs.states.Instance.send_final.Goals as goal
 
-pub returns : goal.returns
-returns c =
+pub returns-clause-state : goal.returns-clause-state
+returns-clause-state c =
     let s = c.args.self.now in
     let k = send_final_refusal s c.args.sender c.args.receiver in
     let z : k ≡ None = search rules in
-    record {
-      answer = search rules;
-      state = when_accepted k _ _ _ z (instance_path s _ (with_node s.table c.args.sender (with_final c.args.receiver)) refl refl (search rules));
-    }
+    when_accepted k _ _ _ z (instance_path s _ (with_node s.table c.args.sender (with_final c.args.receiver)) refl refl refl)

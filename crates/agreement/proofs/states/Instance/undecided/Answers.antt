@@ -3,12 +3,9 @@ use Rattle.board.proofs.Entries.{listed, when_listed}
 use Rattle.agreement.specs.Calls.{undecided_refusal}
 use Rattle.agreement.proofs.states.Instance.undecided.Goals as goal
 
-pub returns : goal.returns
-returns c =
+pub returns-clause-list : goal.returns-clause-list
+returns-clause-list c =
     let t = c.args.self.now.table in
     let k = undecided_refusal t (length c.args.list.now) in
     let z : k ≡ None = search rules in
-    record {
-      answer = search rules;
-      list = when_listed t k _ _ z (listed t _ _ c.list_undecided.ensures);
-    }
+    when_listed t k _ _ z (listed t _ _ c.list_undecided.ensures)

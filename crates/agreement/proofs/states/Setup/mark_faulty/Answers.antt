@@ -4,12 +4,9 @@ use Rattle.board.proofs.Paths.{table_path, when_accepted}
 use Rattle.agreement.specs.Setups.{mark_faulty_refusal, marked}
 use Rattle.agreement.proofs.states.Setup.mark_faulty.Goals as goal
 
-pub returns : goal.returns
-returns c =
+pub returns-clause-state : goal.returns-clause-state
+returns-clause-state c =
     let t = c.args.self.now.table in
     let k = mark_faulty_refusal t c.args.node in
     let z : k ≡ None = search rules in
-    record {
-      answer = search rules;
-      state = when_accepted k _ _ _ z (table_path _ (with_node t c.args.node marked) refl refl (search rules));
-    }
+    when_accepted k _ _ _ z (table_path _ (with_node t c.args.node marked) refl refl refl)

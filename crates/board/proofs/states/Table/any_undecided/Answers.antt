@@ -1,17 +1,15 @@
-use Rattle.std.proofs.Common.{◌≡◌, true, false, eqb, arith, rules}
-use Rattle.std.proofs.lemmas.Bool.{eqb-true}
-use Rattle.board.specs.Tables.{undecided_of}
-use Rattle.board.proofs.Rows.{rows_none, rows_some}
+use Rattle.std.proofs.Common.{not, eqb, take, refl, ap, ◌∙◌, arith, rules, tests}
+use Rattle.std.proofs.lemmas.Iterator.{YieldsList-from_slice}
+use Rattle.std.proofs.lemmas.Iterator.Search.{any_from_yields_List}
+use Rattle.board.specs.Tables.{undecided_in}
+use Rattle.board.proofs.Boards.{any_sum}
+use Rattle.board.proofs.Rows.{sum_rows}
 use Rattle.board.proofs.states.Table.any_undecided.Goals as goal
 
-pub returns-then-node_undecided : goal.returns-then-node_undecided
-returns-then-node_undecided c =
+pub returns : goal.returns
+returns c =
     let t = c.args.self.now in
-    let e : eqb (undecided_of t c.loop-node.node t.m) 0 ≡ false = search rules in
-    rows_some t c.loop-node.node (omega arith) e
-
-pub loop-node-preserved : goal.loop-node-preserved
-loop-node-preserved c =
-    let t = c.args.self.now in
-    let e : eqb (undecided_of t c.loop-node.node t.m) 0 ≡ true = search rules in
-    rows_none t c.loop-node.node (eqb-true _ 0 e) c.loop-node.invariant
+    let front = take t.n t.nodes in
+    any_from_yields_List (λ x. not (eqb (undecided_in x t.m) 0)) _ _ c.any.result c.any.ensures.ran (YieldsList-from_slice front cc) (λ x b q k. search (rules, tests))
+    ∙ any_sum (λ x. not (eqb (undecided_in x t.m) 0)) (λ x. undecided_in x t.m) front (λ x. refl)
+    ∙ ap (λ k. not (eqb k 0)) (sum_rows t t.n (omega (arith, t.sizes)))

@@ -7,11 +7,11 @@ use Rattle.hearing.proofs.ear.EarHearing.cell.Goals as goal
 pub returns-then-node-self : goal.returns-then-node-self
 returns-then-node-self g c =
     let e = c.args.self.now in
-    let f = heard_cell e.table.now e.values.now e.sent.now e.marks.now e.receiver e.item in
-    c.heard_cell.ensures ∙ sym (get_or-map-range_with_len f 0 e.table.now.n c.args.node c.args.node None (omega arith) (omega arith))
+    let f = heard_cell e.scene.now.table.now e.scene.now.values.now e.scene.now.sent.now e.scene.now.marks.now e.receiver e.item in
+    c.heard_cell.ensures ∙ sym (get_or-map-range_with_len f 0 e.scene.now.table.now.n c.args.node c.args.node None (omega arith) (omega arith))
 
 pub returns-else-node-self : goal.returns-else-node-self
 returns-else-node-self g c =
     let e = c.args.self.now in
-    let f = heard_cell e.table.now e.values.now e.sent.now e.marks.now e.receiver e.item in
-    sym (past_counting f e.table.now.n c.args.node None (omega arith))
+    let f = heard_cell e.scene.now.table.now e.scene.now.values.now e.scene.now.sent.now e.scene.now.marks.now e.receiver e.item in
+    sym (past_counting f e.scene.now.table.now.n c.args.node None (omega arith))

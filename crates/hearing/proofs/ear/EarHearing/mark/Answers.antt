@@ -7,11 +7,11 @@ use Rattle.hearing.proofs.ear.EarHearing.mark.Goals as goal
 pub returns-then-node-self : goal.returns-then-node-self
 returns-then-node-self g c =
     let e = c.args.self.now in
-    let f = heard_mark e.table.now e.marks.now e.receiver e.item in
-    c.heard_mark.ensures ∙ sym (get_or-map-range_with_len f 0 e.table.now.n c.args.node c.args.node 0 (omega arith) (omega arith))
+    let f = heard_mark e.scene.now.table.now e.scene.now.marks.now e.receiver e.item in
+    c.heard_mark.ensures ∙ sym (get_or-map-range_with_len f 0 e.scene.now.table.now.n c.args.node c.args.node 0 (omega arith) (omega arith))
 
 pub returns-else-node-self : goal.returns-else-node-self
 returns-else-node-self g c =
     let e = c.args.self.now in
-    let f = heard_mark e.table.now e.marks.now e.receiver e.item in
-    sym (past_counting f e.table.now.n c.args.node 0 (omega arith))
+    let f = heard_mark e.scene.now.table.now e.scene.now.marks.now e.receiver e.item in
+    c.octet.ensures.is ∙ sym (past_counting f e.scene.now.table.now.n c.args.node 0 (omega arith))

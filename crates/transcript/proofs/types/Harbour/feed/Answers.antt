@@ -1,17 +1,13 @@
-use Rattle.std.proofs.Common.{vec_items, refl, arith}
-use Rattle.transcript.specs.Harbours.{view}
+use Rattle.std.proofs.Common.{vec_items, arith}
 use Rattle.transcript.proofs.HarbourLaws.{feeds_more, feeds_all}
 use Rattle.transcript.proofs.types.Harbour.feed.Goals as goal
-
-pub loop-octet-init : goal.loop-octet-init
-loop-octet-init c = record { text = refl; after = refl }
 
 pub loop-octet-preserved : goal.loop-octet-preserved
 loop-octet-preserved c =
     let said = c.in_ok-take.ensures in
-    feeds_more _ _ (vec_items c.loop-octet.text) (vec_items c.take.new.text) (view c.loop-octet.self) (view c.take.new.self) c.args.octets.now c.loop-octet.octet-index
+    feeds_more _ _ (vec_items c.loop-octet.text) (vec_items c.take.new.text) c.loop-octet.self c.take.new.self c.args.octets.now c.loop-octet.octet-index
     (omega arith) said.0 said.1 c.loop-octet.invariant
 
 pub returns : goal.returns
 returns c =
-    feeds_all _ _ (vec_items c.loop-octet.text) (view c.loop-octet.self) c.args.octets.now c.loop-octet.octet-index (omega arith) c.loop-octet.invariant
+    feeds_all _ _ (vec_items c.loop-octet.text) c.loop-octet.self c.args.octets.now c.loop-octet.octet-index (omega arith) c.loop-octet.invariant

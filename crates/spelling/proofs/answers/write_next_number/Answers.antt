@@ -1,7 +1,0 @@
-use Rattle.std.proofs.Common.{refl}
-use Rattle.spelling.proofs.WriteLaws.{wrote_behind}
-use Rattle.spelling.proofs.answers.write_next_number.Goals as goal
-
-pub returns : goal.returns
-returns c =
-    wrote_behind c.write_number.result _ _ _ _ _ _ c.in_ok-extend_from_slice.ensures.items c.write_number.ensures refl
