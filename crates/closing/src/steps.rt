@@ -4,7 +4,7 @@ ghost use Rattle.closing.specs.Closings.{phase_of, sends_cells, to_zero, to_one,
 ghost use Rattle.closing.specs.Counting.{leading_of, graded};
 ghost use Rattle.coin.specs.Tosses.{toss_of};
 
-use super::counting::{count_bit, count_votes, grade, leading};
+use super::counting::{count_votes, grade, leading};
 use super::hearing::Hearing;
 use super::types::{Closed, ItemState, Phase, Step};
 use coin::Coin;
@@ -56,9 +56,11 @@ pub fn close_echo<R: Reading, H: Hearing<R>>(step: &Step, heard: &H) -> (Option<
 pub fn close_fixed<R, H: Hearing<R>>(bit: bool, step: &Step, heard: &H) -> (bool, bool)
     ensures { result ≡ cond bit (to_one step.now.quorum (H.Hearing.marks heard.now)) (to_zero step.now.quorum (H.Hearing.marks heard.now)) }
 {
-    if count_bit(bit, heard) >= step.quorum {
+    let (zeros, ones) = count_votes(heard);
+    let (same, other) = if bit { (ones, zeros) } else { (zeros, ones) };
+    if same >= step.quorum {
         (bit, true)
-    } else if count_bit(!bit, heard) >= step.quorum {
+    } else if other >= step.quorum {
         (!bit, false) // the other bit decides nothing here
     } else {
         (bit, false)
