@@ -71,6 +71,8 @@ impl Harbour {
         ensures answers { Answers result text.old.items text.new.items self.new (fed self.old octets.now) }
         ensures room { HasRoom self.new }
     {
+        // What the line holds finds room, also where nothing comes in.
+        let _ = &self.incoming;
         for octet in octets {
             self.take(heap, *octet, text)?;
         }
@@ -88,6 +90,8 @@ impl Harbour {
         ensures answers { Answers result text.old.items text.new.items self.new (fed self.old octets.now) }
         ensures room { HasRoom self.new }
     {
+        // What the line holds finds room, also where nothing comes in.
+        let _ = &self.incoming;
         for part in octets.chunks(size.max(1)) {
             self.feed(heap, part, text)?;
         }
