@@ -1,10 +1,9 @@
 -- Lines that come in octet by octet.
-use Rattle.std.proofs.Common.{◌≡◌, ℕ, ◌+◌, ◌<◌, ◌≤◌, true, ◌||◌, eqb, ltb, List, [], ◌∷◌, ◌++◌, length, get_or, drop, Some, None, Err, Option, IfSome, sym, refl, ap, ◌∙◌, subst, add-one, arith, drop-cons}
+use Rattle.std.proofs.Common.{◌≡◌, ℕ, ◌+◌, ◌<◌, ◌≤◌, true, ◌||◌, eqb, ltb, List, [], ◌∷◌, ◌++◌, length, get_or, drop, Some, None, Err, Option, sym, refl, ap, ◌∙◌, subst, add-one, arith, drop-cons}
 use Rattle.std.proofs.lemmas.List.{append_assoc, append-nil, drop_all}
 use Rattle.refusal.specs.declared.Refusal.{Refusal}
 use Rattle.refusal.specs.declared.Refusal.TheVariants.{Torn}
-use Rattle.lines.specs.Gathered.{HasRoom, line_answer}
-use Rattle.lines.specs.Coming.{Coming, line_of}
+use Rattle.lines.specs.Gathered.{line_answer}
 use Rattle.transcript.specs.Answers.{Answer, refuses, served}
 use Rattle.transcript.specs.Runs.{Standing, fresh, bearings, lamps, first_run, run_served}
 use Rattle.transcript.specs.Harbours.{View, line_served, took, followed, fed}
@@ -21,10 +20,6 @@ pub not_taken : (s : Standing) (n : ℕ) (l : Option (List ℕ)) (e : Refusal) �
 not_taken s n None e h = let t : e ≡ Torn = cc in ap (refuses s n) t
 not_taken s n (Some []) e h = let t : e ≡ Torn = cc in ap (refuses s n) t ∙ sym (torn_line s n [] refl)
 not_taken s n (Some (b ∷ bs)) e h = absurd (let z : ◌≡◌ {A = ℕ} 0 1 = cc in omega arith)
-
--- a line that finds room in 60 octets has no more
-pub room_of : (c : Coming) → c.limit ≡ 60 → HasRoom (line_of c) → IfSome c.octets (λ os. length os ≤ 60)
-room_of c e h = subst (λ n. IfSome c.octets (λ os. length os ≤ n)) e h.kept
 
 -- octets that come in two parts
 fed_append : (v : View) (xs bs : List ℕ) → fed v (xs ++ bs) ≡ followed (fed v xs) (λ w. fed w bs)
