@@ -1,4 +1,4 @@
-use Rattle.std.proofs.Common.{◌≡◌, ℕ, zero, suc, ◌+◌, ◌-◌, List, [], ◌∷◌, drop, Some, None, Option, refl, arith}
+use Rattle.std.proofs.Common.{◌≡◌, ℕ, zero, suc, ◌+◌, ◌-◌, ◌<◌, List, [], ◌∷◌, length, drop, Some, None, Option, refl, arith}
 use Rattle.std.specs.Option.{option_map}
 use Rattle.std.specs.List.{slice_get}
 use Rattle.lines.specs.Fields.{place_of}
@@ -21,3 +21,11 @@ on_none (Some n) = let same : 0 + n ≡ n = omega arith in rw same
 -- from the start of the line
 pub place_none : (fs : List (List ℕ)) (i : ℕ) → place_on 0 0 fs i ≡ place_of fs i
 place_none fs i = let same : i - 0 ≡ i = omega arith in rw (same, on_none (place_of fs i))
+
+-- at the field
+pub place_all : (s k i : ℕ) (fs : List (List ℕ)) → k ≡ i → 0 < length fs → place_on s k fs i ≡ Some s
+place_all s k i [] e h = absurd (omega arith)
+place_all s k i (f ∷ fs) e h =
+    let none : i - k ≡ 0 = omega arith in
+    let same : s + 0 ≡ s = omega arith in
+    rw (none, same)

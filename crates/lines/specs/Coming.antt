@@ -1,6 +1,6 @@
 -- The lines that come in, octet by octet.
 use Rattle.std.specs.Prelude.{ℕ, ◌+◌, ◌%◌, ◌^◌, Bool, true, false, List, Option}
-use Rattle.lines.specs.Gathered.{empty, pushed}
+use Rattle.lines.specs.Gathered.{Gathered, empty, pushed}
 
 -- the line that is coming in: its number, how many octets it takes at most, those that have come, or none if there were too many, and whether one has come
 pub record Coming : Type 0 where
@@ -8,6 +8,10 @@ pub record Coming : Type 0 where
   pub limit : ℕ
   pub octets : Option (List ℕ)
   pub begun : Bool
+
+-- the line that is coming in, as its octets are gathered
+abbrev pub line_of : Coming → Gathered
+line_of c = record { limit = c.limit; octets = c.octets }
 
 -- a line of which nothing has come
 abbrev pub before : ℕ → ℕ → Coming

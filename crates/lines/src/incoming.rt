@@ -1,7 +1,7 @@
 //! The lines that come in, octet by octet.
 ghost use Rattle.std.specs.Prelude.{◌≡◌, ◌==◌, if◌then◌else◌, min};
-ghost use Rattle.lines.specs.Gathered.{line_answer};
-ghost use Rattle.lines.specs.Coming.{before, took, next};
+ghost use Rattle.lines.specs.Gathered.{line_answer, HasRoom};
+ghost use Rattle.lines.specs.Coming.{line_of, before, took, next};
 ghost use Rattle.std.specs.Result.{result_map_both};
 
 use crate::gather::Line;
@@ -16,12 +16,14 @@ pub struct Incoming {
 }
 
 impl Model for Incoming {
-    ghost use Rattle.lines.specs.Gathered.{begun};
+    ghost use Rattle.lines.specs.Gathered.{begun, HasRoom};
     ghost use Rattle.lines.specs.Coming.{Coming};
 
     ghost Value = { Coming };
 
     ghost view = { λ i. record { number = i.number; limit = i.line.limit; octets = i.line.octets; begun = begun i.line.octets } };
+
+    ghost invariant = { λ i. HasRoom i.line };
 }
 
 impl Incoming {
@@ -39,7 +41,10 @@ impl Incoming {
     pub fn push(&mut self, octet: u8) -> bool
         ensures ends { result ≡ (octet == 10) }
         ensures line { self.new ≡ (if octet == 10 then self.old else took self.old octet) }
+        ensures room { HasRoom (line_of self.new) }
     {
+        // What is held finds room, also where nothing comes to it.
+        let _ = &self.line;
         if octet == b'\n' {
             return true;
         }
@@ -56,7 +61,8 @@ impl Incoming {
 
     // The line's octets; an empty or over-long line is torn.
     pub fn octets(&self) -> Result<&[u8], Refusal>
-        ensures { result_map_both (λ s. s.now) (λ e. e) result ≡ line_answer self.now.octets }
+        ensures answer { result_map_both (λ s. s.now) (λ e. e) result ≡ line_answer self.now.octets }
+        ensures room { HasRoom (line_of self.now) }
     {
         self.line.octets()
     }
@@ -70,7 +76,8 @@ impl Incoming {
 
     // The next line is to come. Numbers wrap at 2^64.
     pub fn next_line(&mut self)
-        ensures { self.new ≡ before (next self.old.number) self.old.limit }
+        ensures line { self.new ≡ before (next self.old.number) self.old.limit }
+        ensures room { HasRoom (line_of self.new) }
     {
         self.number = self.number.wrapping_add(1);
         self.line.clear();

@@ -82,7 +82,7 @@ pub fn field_place(line: &[u8], part: u8, index: usize) -> Option<usize>
     for _ in 0..index {
         place += walk.next()?.len() + 1;
     }
-    let _ = walk.next()?;
+    walk.rest?;
     Some(place)
 }
 

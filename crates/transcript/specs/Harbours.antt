@@ -1,5 +1,5 @@
 -- A harbour: what the octets that come in are answered by, and what they leave.
-use Rattle.std.specs.Prelude.{ℕ, Bool, true, false, cond, List, [], ◌∷◌, ◌++◌, Some, None, Option, ◌==◌}
+use Rattle.std.specs.Prelude.{ℕ, ◌≤◌, Bool, true, false, cond, List, [], ◌∷◌, ◌++◌, length, Some, None, Option, IfSome, ◌==◌}
 use Rattle.refusal.specs.declared.Refusal.TheVariants.{Torn}
 use Rattle.lines.specs.Gathered.{empty, pushed}
 use Rattle.lines.specs.Coming.{Coming, next}
@@ -12,6 +12,10 @@ pub record View : Type 0 where
   pub line : Option (List ℕ)
   pub begun : Bool
   pub run : Standing
+
+-- what has come of the line finds room: at most 60 octets
+abbrev pub HasRoom : View → Type 0
+HasRoom v = IfSome v.line (λ os. length os ≤ 60)
 
 -- a harbour by the line that is coming in, and its run
 abbrev pub seen : Coming → Standing → View

@@ -1,6 +1,6 @@
 //! What the octets that come in to a harbour are answered by.
 ghost use Rattle.std.specs.Prelude.{◌≡◌};
-ghost use Rattle.transcript.specs.Harbours.{before, line_served, ended, took, fed, finished};
+ghost use Rattle.transcript.specs.Harbours.{before, line_served, ended, took, fed, finished, HasRoom};
 ghost use Rattle.transcript.specs.Runs.{standing, fresh, Answers};
 
 use super::run::answer_run;
@@ -31,7 +31,8 @@ fn answer_gathered(
 impl Harbour {
     // A harbour that nothing has come in to.
     pub fn new() -> Harbour
-        ensures { result ≡ before 1 fresh }
+        ensures new { result ≡ before 1 fresh }
+        ensures room { HasRoom result }
     {
         Harbour {
             incoming: Incoming::new(LIMIT),
@@ -41,7 +42,8 @@ impl Harbour {
 
     // Answers the line that has come in, and begins the next.
     fn end_line(&mut self, heap: Global, text: &mut Vec<u8>) -> Result<(), AllocError>
-        ensures { Answers result text.old.items text.new.items self.new (ended self.old) }
+        ensures answers { Answers result text.old.items text.new.items self.new (ended self.old) }
+        ensures room { HasRoom self.new }
     {
         answer_gathered(&mut self.run, heap, &self.incoming, text)?;
         self.incoming.next_line();
@@ -50,7 +52,8 @@ impl Harbour {
 
     // Takes one octet: 10 ends the line.
     fn take(&mut self, heap: Global, octet: u8, text: &mut Vec<u8>) -> Result<(), AllocError>
-        ensures { Answers result text.old.items text.new.items self.new (took self.old octet) }
+        ensures answers { Answers result text.old.items text.new.items self.new (took self.old octet) }
+        ensures room { HasRoom self.new }
     {
         if self.incoming.push(octet) {
             return self.end_line(heap, text);
@@ -65,8 +68,11 @@ impl Harbour {
         octets: &[u8],
         text: &mut Vec<u8>,
     ) -> Result<(), AllocError>
-        ensures { Answers result text.old.items text.new.items self.new (fed self.old octets.now) }
+        ensures answers { Answers result text.old.items text.new.items self.new (fed self.old octets.now) }
+        ensures room { HasRoom self.new }
     {
+        // What the line holds finds room, also where nothing comes in.
+        let _ = &self.incoming;
         for octet in octets {
             self.take(heap, *octet, text)?;
         }
@@ -81,8 +87,11 @@ impl Harbour {
         size: usize,
         text: &mut Vec<u8>,
     ) -> Result<(), AllocError>
-        ensures { Answers result text.old.items text.new.items self.new (fed self.old octets.now) }
+        ensures answers { Answers result text.old.items text.new.items self.new (fed self.old octets.now) }
+        ensures room { HasRoom self.new }
     {
+        // What the line holds finds room, also where nothing comes in.
+        let _ = &self.incoming;
         for part in octets.chunks(size.max(1)) {
             self.feed(heap, part, text)?;
         }
@@ -91,7 +100,8 @@ impl Harbour {
 
     // Ends the input. A last line without octet 10 counts if anything of it has come.
     pub fn finish(&mut self, heap: Global, text: &mut Vec<u8>) -> Result<(), AllocError>
-        ensures { Answers result text.old.items text.new.items self.new (finished self.old) }
+        ensures answers { Answers result text.old.items text.new.items self.new (finished self.old) }
+        ensures room { HasRoom self.new }
     {
         if self.incoming.has_begun() {
             return self.end_line(heap, text);

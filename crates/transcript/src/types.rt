@@ -20,7 +20,7 @@ pub struct Harbour {
 }
 
 impl Model for Harbour {
-    ghost use Rattle.std.specs.Prelude.{◌≡◌};
+    ghost use Rattle.std.specs.Prelude.{◌≡◌, ◌≤◌, length, IfSome};
     ghost use Rattle.transcript.specs.Runs.{standing};
     ghost use Rattle.transcript.specs.Harbours.{View, seen};
 
@@ -28,5 +28,5 @@ impl Model for Harbour {
 
     ghost view = { λ h. seen h.incoming (standing h.run) };
 
-    ghost invariant = { λ h. h.incoming.limit ≡ 60 };
+    ghost invariant = { λ h. (h.incoming.limit ≡ 60) × IfSome h.incoming.octets (λ os. length os ≤ 60) };
 }
