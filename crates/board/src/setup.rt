@@ -31,8 +31,7 @@ impl Table {
         cells.fill(None);
         let mut flags = Grid::new(marks, n * n, m);
         flags.fill(Mark::Nothing.octet());
-        let node = Node::default();
-        let nodes = [node; 16];
+        let nodes = [Node::new(); 16];
         Ok(Table { n, m, nodes })
     }
 

@@ -1,10 +1,18 @@
 //! The records of the nodes, how the table of them is read, and the places on the boards.
 ghost use Rattle.std.specs.Prelude.{◌≡◌, ◌+◌, ◌*◌, ◌<◌, ◌≤◌, not, ◌==◌};
-ghost use Rattle.board.specs.Tables.{faulty_at, bit_at, decided_at, final_at, cells_needed, marks_needed, cell_place, mark_place, undecided_at, undecided_in, undecided_count};
+ghost use Rattle.board.specs.Tables.{new_node, faulty_at, bit_at, decided_at, final_at, cells_needed, marks_needed, cell_place, mark_place, undecided_at, undecided_in, undecided_count};
 
 use super::states::{Node, Table};
 
 impl Node {
+    // An honest node that has decided nothing.
+    #[tactic(auto, using(crate::proofs::Paths::new_default))]
+    pub fn new() -> Node
+        ensures { result ≡ new_node }
+    {
+        Node::default()
+    }
+
     // Whether one of the first items is undecided at this node, if it is honest.
     fn any_undecided(&self, items: usize) -> bool
         requires { items ≤ 16 }

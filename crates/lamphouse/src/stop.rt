@@ -1,6 +1,6 @@
 //! Why a line has no answer.
-ghost use Rattle.std.specs.Prelude.{◌≡◌};
-ghost use Rattle.lamphouse.specs.Stops.{Stops};
+ghost use Rattle.std.specs.Prelude.{◌≡◌, true};
+ghost use Rattle.lamphouse.specs.Stops.{ends, Stops};
 ghost use Rattle.lamphouse.specs.declared.stop.Stop.TheVariants.{Refused};
 
 use refusal::{Failure, Refusal};
@@ -23,6 +23,8 @@ impl From<Refusal> for Stop {
 }
 
 impl From<AllocError> for Stop {
+    ghost from_gives = { λ _ stop. ends stop ≡ true };
+
     fn from(error: AllocError) -> Stop {
         Stop::Ends(error.into())
     }
@@ -40,6 +42,8 @@ impl From<Failure> for Stop {
 }
 
 impl From<io::Error> for Stop {
+    ghost from_gives = { λ _ stop. ends stop ≡ true };
+
     fn from(error: io::Error) -> Stop {
         Stop::Ends(error.into())
     }

@@ -1,7 +1,7 @@
 use Rattle.std.proofs.Common.{◌≡◌, length, replicate, None, refl, ap, rules}
 use Rattle.board.specs.declared.states.Node.{Node}
 use Rattle.board.specs.Setups.{make_refusal}
-use Rattle.board.proofs.Paths.{new_default, when_made, when_accepted}
+use Rattle.board.proofs.Paths.{when_made, when_accepted}
 use Rattle.board.proofs.states.Table.new.Goals as goal
 
 pub returns-clause-answer : goal.returns-clause-answer
@@ -10,8 +10,7 @@ returns-clause-answer g c =
     let m = c.args.m in
     let k = make_refusal n m (length c.args.values.now) (length c.args.marks.now) in
     let z : k ≡ None = search rules in
-    let new = new_default c.default-node.result c.default-node.ensures in
-    when_made n m k _ z refl refl (ap (λ (x : Node). replicate 16 x) new)
+    when_made n m k _ z refl refl (ap (λ (x : Node). replicate 16 x) c.new-nodes.ensures)
 
 pub returns-clause-marks : goal.returns-clause-marks
 returns-clause-marks g c =
