@@ -1,6 +1,7 @@
 //! The rows of an ended run.
 ghost use Rattle.std.specs.Prelude.{◌≡◌, length, IfOk};
 ghost use Rattle.desk.specs.Desks.{results_of, row_of};
+ghost use Rattle.desk.specs.Views.{HasRoom};
 
 use super::stage::{Desk, Stage};
 use agreement::Outcome;
@@ -31,7 +32,8 @@ fn results<R: Copy>(
 impl<R: Reading> Desk<R> {
     // A node's row: what it had decided of each item when the run ended. A node that is faulty or none of the run's has an empty one, and before the end all have.
     pub fn row(&self, heap: Global, node: usize) -> Result<Vec<Decision<R>>, AllocError>
-        ensures { IfOk result (λ v. v.items ≡ row_of self.now node) }
+        ensures row { IfOk result (λ v. v.items ≡ row_of self.now node) }
+        ensures room { HasRoom self.now }
     {
         match &self.stage {
             Some(Stage::Ended(outcome)) => results(heap, outcome, &self.boards.values, node),

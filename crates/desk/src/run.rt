@@ -2,6 +2,7 @@
 ghost use Rattle.std.specs.Prelude.{◌≡◌, ◌≤◌, length};
 ghost use Rattle.coin.specs.Tosses.{strip_toss};
 ghost use Rattle.desk.specs.Desks.{on_setup, on_instance, on_table, prepares, strips, opens, ends, looks, acts, serve_call, serve};
+ghost use Rattle.desk.specs.Views.{HasRoom};
 ghost use Rattle.play.specs.Moves.{Made, move_of, world_of};
 
 use super::stage::{Desk, Reply, Stage};
@@ -80,13 +81,10 @@ impl<R: Reading> Desk<R> {
             item,
             decision,
         };
+        let values = &self.boards.values;
         match &self.stage {
-            Some(Stage::Running(instance)) => instance
-                .decision(&self.boards.values, node, item)
-                .map(seen),
-            Some(Stage::Ended(outcome)) => outcome
-                .decision(&self.boards.values, node, item)
-                .map(seen),
+            Some(Stage::Running(instance)) => instance.decision(values, node, item).map(seen),
+            Some(Stage::Ended(outcome)) => outcome.decision(values, node, item).map(seen),
             _ => Err(Refusal::OutOfTurn),
         }
     }
@@ -178,8 +176,8 @@ impl<R: Reading> Desk<R> {
         }
     }
 
-    // Runs a command. One that is out of turn is refused, and so is a second making of a setup.
-    pub fn run(&mut self, command: &Command<R>) -> Result<Reply<R>, Refusal>
+    // Makes what a command asks for.
+    fn serve(&mut self, command: &Command<R>) -> Result<Reply<R>, Refusal>
         ensures reply { result ≡ (serve R.Reading.meaning self.old command.now).reply }
         ensures desk { self.new ≡ (serve R.Reading.meaning self.old command.now).held }
     {
@@ -191,5 +189,16 @@ impl<R: Reading> Desk<R> {
             Command::Call(call) => self.call(&call),
             Command::End => self.end(),
         }
+    }
+
+    // Runs a command. One that is out of turn is refused, and so is a second making of a setup.
+    pub fn run(&mut self, command: &Command<R>) -> Result<Reply<R>, Refusal>
+        ensures reply { result ≡ (serve R.Reading.meaning self.old command.now).reply }
+        ensures desk { self.new ≡ (serve R.Reading.meaning self.old command.now).held }
+        ensures room { HasRoom self.new }
+    {
+        let reply = self.serve(command);
+        let _ = &self.count; // what is so of every desk is known of this one
+        reply
     }
 }

@@ -1,8 +1,9 @@
 //! Beginning a run of one node.
-ghost use Rattle.std.specs.Prelude.{◌≡◌, length, replicate, None};
+ghost use Rattle.std.specs.Prelude.{◌≡◌, length, replicate, None, IfOk};
 ghost use Rattle.law.specs.Runs.{setup_run};
 ghost use Rattle.refusal.specs.Failures.{IfEnough};
 ghost use Rattle.refusal.specs.Refusals.{answered};
+ghost use Rattle.participant.specs.Held.{HasRoom};
 ghost use Rattle.participant.specs.Participants.{size_refusal, begin_refusal, faulty_moves, cell_moves, Opens, Begins};
 
 use super::state::Participant;
@@ -91,7 +92,8 @@ impl<R: Reading> Participant<R> {
         entries: &[u16],
         cells: &[Option<R>],
     ) -> Result<Participant<R>, Failure>
-        ensures { IfEnough result (λ a. Begins n m node entries.now cells.now (begin_refusal n m node (length entries.now) (length cells.now)) a) }
+        ensures begins { IfEnough result (λ a. Begins n m node entries.now cells.now (begin_refusal n m node (length entries.now) (length cells.now)) a) }
+        ensures room { IfOk result (λ h. HasRoom h) }
     {
         check_begin(n, m, node, entries.len(), cells.len())?;
         let mut boards = OwnedBoards::new(heap)?;

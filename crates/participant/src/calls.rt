@@ -25,6 +25,7 @@ impl<R: Reading> Participant<R> {
     pub fn message(&self, place: &mut [u8]) -> Result<usize, Refusal>
         ensures answer { let h = self.now in result ≡ answered (own_refusal R.Reading.WIDTH R.Reading.octets h.world.state h.world.values h.node place.old) (length (own_octets R.Reading.WIDTH R.Reading.octets h.world.state h.world.values h.node)) }
         ensures place { let h = self.now in place.new ≡ if_accepted (own_refusal R.Reading.WIDTH R.Reading.octets h.world.state h.world.values h.node place.old) (own_placed R.Reading.WIDTH R.Reading.octets h.world.state h.world.values h.node place.old) place.old }
+        ensures room { HasRoom self.now }
     {
         own_message(&self.instance, &self.boards.values, self.node, place)
     }
@@ -34,6 +35,7 @@ impl<R: Reading> Participant<R> {
         ensures answer { let h = self.old in let q = heard_parts R.Reading.WIDTH R.Reading.reads h octets.now in result ≡ answered (hear_refusal R.Reading.WIDTH R.Reading.reads h (length answers.old) q) (length (heard_calls R.Reading.WIDTH R.Reading.reads h q)) }
         ensures held { let h = self.old in let q = heard_parts R.Reading.WIDTH R.Reading.reads h octets.now in self.new ≡ if_accepted (hear_refusal R.Reading.WIDTH R.Reading.reads h (length answers.old) q) (with_world h (run R.Reading.meaning h.world (strip_moves h.strip (heard_calls R.Reading.WIDTH R.Reading.reads h q)))) h }
         ensures answers { let h = self.old in let q = heard_parts R.Reading.WIDTH R.Reading.reads h octets.now in let calls = heard_calls R.Reading.WIDTH R.Reading.reads h q in answers.new ≡ if_accepted (hear_refusal R.Reading.WIDTH R.Reading.reads h (length answers.old) q) (call_says (history R.Reading.meaning h.world (strip_moves h.strip calls)) ++ drop (length calls) answers.old) answers.old }
+        ensures room { HasRoom self.new }
     {
         let n = self.instance.nodes();
         let m = self.instance.items();
@@ -52,6 +54,7 @@ impl<R: Reading> Participant<R> {
     pub fn close(&mut self) -> Result<(), Refusal>
         ensures answer { result ≡ answered (close_refusal self.old.world.state true) tt }
         ensures held { let h = self.old in self.new ≡ with_world h (after R.Reading.meaning h.world (strip_move h.strip call.Close)) }
+        ensures room { HasRoom self.new }
     {
         let strip = Strip::new(&self.entries)?;
         let boards = &mut self.boards;

@@ -1,4 +1,4 @@
-use Rattle.std.proofs.Common.{◌≡◌, length, sym, refl, ◌∙◌, subst, arith}
+use Rattle.std.proofs.Common.{◌≡◌, length, sym, refl, ap, ◌∙◌, subst, arith}
 use Rattle.std.proofs.lemmas.List.{take_at}
 use Rattle.coin.specs.Tosses.{strip_refusal}
 use Rattle.participant.specs.Held.{Held}
@@ -34,4 +34,11 @@ returns g c =
       answer = q.answer;
       held = same_held s.node _ _ _ _ _ _ _ _ _ _ refl (take_at called.new.values _ _ lv) (sym c.deref-2.ensures.value) (take_at called.new.marks _ _ lm) (sym same)
           ∙ q.held;
+      room = record {
+        values = ap length (take_at called.new.values _ _ lv) ∙ lv ∙ s.boards.cells.0;
+        sent = sym s.boards.sent.ok.0 ∙ s.boards.pairs.0;
+        marks = ap length (take_at called.new.marks _ _ lm) ∙ lm ∙ s.boards.pairs.1;
+        some = omega (arith, c.self.invariant.0, s.entries.ok.0);
+        few = omega (arith, c.self.invariant.1, s.entries.ok.0);
+      };
     }

@@ -1,4 +1,4 @@
-use Rattle.std.proofs.Common.{◌≡◌, ℕ, length, refl, ap, ◌∙◌, subst, arith}
+use Rattle.std.proofs.Common.{◌≡◌, ℕ, length, sym, refl, ap, ◌∙◌, subst, arith}
 use Rattle.std.proofs.lemmas.List.{take_at}
 use Rattle.wire.specs.Messages.{parts_of}
 use Rattle.wire.specs.Reads.{read_answer}
@@ -36,4 +36,11 @@ returns g c =
       answer = x.answer;
       held = same_held s.node _ _ _ _ _ _ _ _ _ _ refl refl (take_at called.new.sent _ _ ls) (take_at called.new.marks _ _ lm) refl ∙ x.held;
       answers = x.said;
+      room = record {
+        values = sym s.boards.values.ok.0 ∙ s.boards.cells.0;
+        sent = ap length (take_at called.new.sent _ _ ls) ∙ ls ∙ s.boards.pairs.0;
+        marks = ap length (take_at called.new.marks _ _ lm) ∙ lm ∙ s.boards.pairs.1;
+        some = omega (arith, c.self.invariant.0, s.entries.ok.0);
+        few = omega (arith, c.self.invariant.1, s.entries.ok.0);
+      };
     }

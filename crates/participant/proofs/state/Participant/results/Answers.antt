@@ -12,8 +12,8 @@ loop-item-preserved g c =
     each_more f c.loop-item.item (vec_items c.loop-item.list) (vec_items c.push.new.self) c.in-Ok-Decided.cell
     c.loop-item.invariant (sym (ap decided_cell e)) c.in_ok-push.ensures.items
 
-pub returns-in_default : goal.returns-in_default
-returns-in_default g c =
+pub returns-in_default-clause-results : goal.returns-in_default-clause-results
+returns-in_default-clause-results g c =
     let f : ℕ → Option (Option g.row.R.Denot) = λ k. decided_cell (decision_at c.args.self.now k) in
     let none : ◌≡◌ {A = Option (Option g.row.R.Denot)} None (f c.loop-item.item) = elim c.in_default.branch [
       | in_default-via-in-Ok+in_default w ↦ search rules
@@ -22,8 +22,8 @@ returns-in_default g c =
     let count : c.items-item-end.result ≡ c.args.self.now.world.state.table.m = c.items-item-end.ensures ∙ ap (λ (h : Held g.row.R.Denot). h.world.state.table.m) c.self.view_is in
     each_missing f c.loop-item.item c.args.self.now.world.state.table.m (omega (arith, c.loop-item-test.true, count)) none
 
-pub returns : goal.returns
-returns g c =
+pub returns-clause-results : goal.returns-clause-results
+returns-clause-results g c =
     let f : ℕ → Option (Option g.row.R.Denot) = λ k. decided_cell (decision_at c.args.self.now k) in
     let count : c.items-item-end.result ≡ c.args.self.now.world.state.table.m = c.items-item-end.ensures ∙ ap (λ (h : Held g.row.R.Denot). h.world.state.table.m) c.self.view_is in
     let all : c.loop-item.item ≡ c.args.self.now.world.state.table.m = omega (arith, c.loop-item-test.false, c.loop-item.auto.item-end, count) in
