@@ -1,23 +1,31 @@
-use Rattle.std.proofs.Common.{rules, ◌≡◌, List, get_or, None, refl, sym, ap, subst, ◌∙◌, nat_le, arith}
-use borrow.Author.Tests.{tests}
-use Rattle.std.specs.List.{find}
-use Rattle.std.proofs.lemmas.Iterator.{YieldsList-from_range}
-use Rattle.std.proofs.lemmas.Iterator.Adapters.{option_map_id}
-use Rattle.std.proofs.lemmas.Iterator.Consumers.{YieldsList-from_filter_map}
-use Rattle.std.proofs.lemmas.Iterator.Search.{find_from_yields_List}
-use Rattle.closing.specs.Counting.{backers, backed}
-use Rattle.closing.proofs.Nodes.{readings_of_nodes, first_reading}
+use Rattle.std.proofs.Common.{◌<◌, length, Some, None, sym, refl, ◌∙◌, arith}
+use Rattle.std.proofs.lemmas.Bool.{le-leb, lt-leb}
+use Rattle.closing.specs.Counting.{backed}
+use Rattle.closing.proofs.Scans.{first_on, first_at, first_out}
 use Rattle.closing.proofs.counting.leading.Goals as goal
+use Rattle.closing.proofs.counting.leading.Goals.{in-Some+else-q-count_backers, in_default}
+
+pub returns-then-q-count_backers : goal.returns-then-q-count_backers
+returns-then-q-count_backers g c =
+    let xs = g.H.Hearing.cells c.args.heard.now in
+    let h : c.loop-node.node < length xs = omega arith in
+    sym (first_at (backed g.R.Reading.meaning c.args.q xs) xs c.loop-node.node (Some c.in-Some.r) h c.in-Some.ensures
+    (le-leb _ _ (omega (arith, c.count_backers.ensures, c.if-q-count_backers.true))))
+    ∙ c.loop-node.invariant
+
+pub loop-node-preserved : goal.loop-node-preserved
+loop-node-preserved g c =
+    let xs = g.H.Hearing.cells c.args.heard.now in
+    let h : c.loop-node.node < length xs = omega arith in
+    let p = backed g.R.Reading.meaning c.args.q xs in
+    elim c.match-cell.branch [
+      | in-Some+else-q-count_backers w ↦
+          sym (first_on p xs c.loop-node.node (Some w.in-Some.r) h w.in-Some.ensures (lt-leb _ _ (omega (arith, w.count_backers.ensures, w.if-q-count_backers.false)))) ∙ c.loop-node.invariant
+      | in_default w ↦ sym (first_on p xs c.loop-node.node None h w.in_default.ensures refl) ∙ c.loop-node.invariant
+    ]
 
 pub returns : goal.returns
 returns g c =
-    let meaning = g.R.Reading.meaning in
     let xs = g.H.Hearing.cells c.args.heard.now in
-    let n = c.cell_count.result in
-    let q = c.args.q in
-    sym (option_map_id c.find.result)
-    ∙ find_from_yields_List (λ r. nat_le q (backers meaning (meaning r) xs)) _ _ c.find.result c.find.ensures.ran
-    (YieldsList-from_filter_map _ (λ i. get_or xs i None) (YieldsList-from_range 0 n n (cc) (omega arith)) c.filter_map.ensures.closure (λ x r f k. search (rules, tests)))
-    (λ x b f k. (search rules, subst (λ (y : _). b ≡ nat_le c.args.q (backers meaning (meaning y) xs)) k.shows (search (rules, k.called))))
-    ∙ ap (λ (l : List _). find (λ r. nat_le q (backers meaning (meaning r) xs)) l) (readings_of_nodes xs n c.cell_count.ensures)
-    ∙ first_reading (λ r. nat_le q (backers meaning (meaning r) xs)) (backed meaning q xs) refl (λ r. refl) xs
+    sym (first_out (backed g.R.Reading.meaning c.args.q xs) xs c.loop-node.node (omega arith))
+    ∙ c.loop-node.invariant
