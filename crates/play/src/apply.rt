@@ -3,7 +3,8 @@ ghost use Rattle.std.specs.Prelude.{◌≡◌};
 ghost use Rattle.board.specs.Tables.{undecided_count};
 ghost use Rattle.agreement.specs.Calls.{undecided_refusal};
 ghost use Rattle.refusal.specs.Refusals.{answered};
-ghost use Rattle.law.specs.declared.calls.Told.TheVariants.{Count};
+ghost use Rattle.law.specs.declared.calls.Told.TheVariants.{Count, Done};
+ghost use Rattle.std.specs.Result.{result_map_both};
 ghost use Rattle.play.specs.Lending.{lent, SameBoards, SameLengths};
 ghost use Rattle.play.specs.Moves.{setup_move_of, SetupMade, move_of, world_of, surplus, Made};
 
@@ -12,6 +13,14 @@ use agreement::{Instance, Setup};
 use coin::Coin;
 use law::{Answer, Call, SetupCall, Told};
 use reading::Reading;
+use refusal::Refusal;
+
+// What a call answers that has nothing more to say.
+fn done<R>(made: Result<(), Refusal>) -> Answer<R>
+    ensures { result ≡ result_map_both (λ _. Done) (λ e. e) made }
+{
+    made.map(|()| Told::Done)
+}
 
 // Asks for the undecided items on a list of so many places; no instance has more than 256.
 fn apply_undecided<R>(instance: &Instance, places: usize) -> Answer<R>
@@ -34,7 +43,7 @@ pub fn apply_setup<R: Reading>(
         SetupCall::MarkFaulty { node } => setup.mark_faulty(node),
         SetupCall::Propose { node, item, cell } => setup.propose(values, node, item, cell),
     };
-    made.map(|()| Told::Done)
+    done(made)
 }
 
 // Makes a call on an instance with these boards; a close brings this coin.
@@ -59,27 +68,15 @@ pub fn apply<'a, R: Reading, C: Coin>(
             receiver,
             item,
             cell,
-        } => {
-            instance
-                .send_value(sent, marks, sender, receiver, item, cell)
-                .map(|()| Told::Done)
-        }
+        } => done(instance.send_value(sent, marks, sender, receiver, item, cell)),
         Call::SendBit {
             sender,
             receiver,
             item,
             bit,
-        } => {
-            instance
-                .send_bit(marks, sender, receiver, item, bit)
-                .map(|()| Told::Done)
-        }
-        Call::SendFinal { sender, receiver } => instance
-            .send_final(sender, receiver)
-            .map(|()| Told::Done),
-        Call::Close => instance
-            .close(coin, values, scratch, sent, marks)
-            .map(|()| Told::Done),
+        } => done(instance.send_bit(marks, sender, receiver, item, bit)),
+        Call::SendFinal { sender, receiver } => done(instance.send_final(sender, receiver)),
+        Call::Close => done(instance.close(coin, values, scratch, sent, marks)),
         Call::Decision { node, item } => Ok(Told::Decision(instance.decision(values, node, item)?)),
         Call::Undecided { places } => apply_undecided(instance, places),
     }
